@@ -1,0 +1,36 @@
+-- a `BTreeMap` by name, seen as a finite map
+use Rattle.std.proofs.Common.{arith, ◌≡◌, refl, sym, ◌∙◌, ap, subst, cond, List, [], ◌∷◌, ℕ, Some, None, Bool, true, false, length, ◌++◌}
+use Rattle.std.specs.Prelude.{Option, T, ◌&&◌, map}
+use Rattle.std.specs.Ordering.{nat_cmp, eq_by_cmp, is_eq, is_lt}
+use Rattle.std.specs.declared.cmp.Ordering.{Ordering}
+use Rattle.std.specs.declared.cmp.Ordering.TheVariants.{Less, Equal, Greater}
+use Rattle.std.specs.Cmp.{eq_by_cmp_equiv, IsTotalOrder}
+use Rattle.std.specs.Cmp.Lexicographic.{slice_cmp, nat_list_cmp_total}
+use Rattle.std.specs.Map.{lookup, keys_of}
+use Rattle.std.specs.BTreeMap.{BTreeMap, is_at, get_by, UpdatesBy, keys}
+use Rattle.std.specs.List.{AllByRecursion}
+use Rattle.std.specs.List.Sorted.{IsStrictlySortedBy}
+use Rattle.std.proofs.lemmas.Map.Lookups.{exact_bytes}
+use Rattle.std.specs.FinMap.Entries.{by_order, put}
+use Rattle.std.specs.FinMap.{FinMap, entries, entries-insert, len-entries, len-empty, empty, get, insert, remove, find, from_entries, same_map, get-from_entries, get-insert, get-remove}
+
+find_name : {V : Type 0} (es : List (List ℕ × V)) (q : List ℕ) → find (slice_cmp nat_cmp) q es ≡ lookup (is_at (slice_cmp nat_cmp q)) es
+find_name [] q = refl
+find_name (e ∷ es) q = ap (cond (is_at (slice_cmp nat_cmp q) e.0) (Some e.1)) (find_name es q)
+
+-- what the map that the entries make has at a name
+pub get_name : {V : Type 0} (es : List (List ℕ × V)) (q : List ℕ) → get (from_entries {R = slice_cmp nat_cmp} es) q ≡ lookup (is_at (slice_cmp nat_cmp q)) es
+get_name es q = get-from_entries nat_list_cmp_total es q ∙ find_name es q
+
+-- entries that differ at one name make maps that differ there
+pub one_put : {V : Type 0} (m n : BTreeMap (List ℕ) V) (s : List ℕ) (v : V) → UpdatesBy (slice_cmp nat_cmp) (slice_cmp nat_cmp s) m n (Some v)
+    → from_entries {R = slice_cmp nat_cmp} n.entries ≡ insert (from_entries m.entries) s v
+one_put m n s v h = same_map nat_list_cmp_total exact_bytes _ _ (λ q.
+    get_name n.entries q ∙ h.0 q ∙ ap (λ b. cond b (Some v) (lookup (is_at (slice_cmp nat_cmp q)) m.entries)) ((eq_by_cmp_equiv nat_list_cmp_total).symm s q)
+    ∙ sym (get-insert nat_list_cmp_total (from_entries m.entries) s v q ∙ ap (cond (eq_by_cmp (slice_cmp nat_cmp) q s) (Some v)) (get_name m.entries q)))
+
+pub one_taken : {V : Type 0} (m n : BTreeMap (List ℕ) V) (s : List ℕ) → UpdatesBy (slice_cmp nat_cmp) (slice_cmp nat_cmp s) m n None
+    → from_entries {R = slice_cmp nat_cmp} n.entries ≡ remove (from_entries m.entries) s
+one_taken m n s h = same_map nat_list_cmp_total exact_bytes _ _ (λ q.
+    get_name n.entries q ∙ h.0 q ∙ ap (λ b. cond b None (lookup (is_at (slice_cmp nat_cmp q)) m.entries)) ((eq_by_cmp_equiv nat_list_cmp_total).symm s q)
+    ∙ sym (get-remove nat_list_cmp_total (from_entries m.entries) s q ∙ ap (cond (eq_by_cmp (slice_cmp nat_cmp) q s) None) (get_name m.entries q)))

@@ -1,0 +1,113 @@
+ghost use Rattle.std.specs.Prelude.{◌≡◌, OnOk, OnErr};
+ghost use Rattle.std.specs.Option.{option_copied};
+ghost use Rattle.std.specs.FinMap as map;
+
+use crate::memory::NoMemory;
+use crate::name::Name;
+use std::alloc::Global;
+use std::collections::BTreeMap;
+use std::marker::Model;
+
+/// A map from names to values. Contracts see the finite map, whose keys are in the byte order of names.
+#[derive(Drop)]
+pub struct Table<V> {
+    entries: BTreeMap<Name, V>,
+}
+
+impl<V> Model for Table<V> {
+    ghost use Rattle.std.specs.Ordering.{nat_cmp};
+    ghost use Rattle.std.specs.Cmp.Lexicographic.{slice_cmp};
+    ghost use Rattle.std.specs.FinMap as map;
+    ghost use Rattle.std.specs.Coded.{coded_list, coded_ℕ};
+
+    ghost Value = { map.FinMap (slice_cmp nat_cmp) V };
+
+    ghost coded = { map.code (coded_list coded_ℕ) V.code };
+
+    ghost view = { λ table. map.from_entries table.entries.entries };
+}
+
+impl<V> Table<V> {
+    /// An empty map, which takes no memory yet.
+    pub fn new(alloc: Global) -> Table<V>
+        ensures { result ≡ map.empty }
+    {
+        Table {
+            entries: BTreeMap::new(alloc),
+        }
+    }
+
+    /// The value at a name, none exactly where the map has no such name.
+    pub fn get(&self, name: &Name) -> Option<&V>
+        ensures { option_copied result ≡ map.get self.now name.now }
+    {
+        self.entries.get(name)
+    }
+}
+
+impl<V: Drop> Table<V> {
+    /// Sets the value at a name.
+    ///
+    /// # Errors
+    ///
+    /// `NoMemory` leaves the map as it was.
+    pub fn put(&mut self, name: Name, value: V) -> Result<(), NoMemory>
+        ensures ok { OnOk result (self.new ≡ map.insert self.old name value) }
+        ensures err { OnErr result (self.new ≡ self.old) }
+    {
+        match self.entries.insert(name, value) {
+            Ok(_) => Ok(()),
+            Err(_) => Err(NoMemory),
+        }
+    }
+}
+
+/// A set of names.
+#[derive(Drop)]
+pub struct NameSet {
+    marks: Table<()>,
+}
+
+impl Model for NameSet {
+    ghost use Rattle.std.specs.Ordering.{nat_cmp};
+    ghost use Rattle.std.specs.Cmp.Lexicographic.{slice_cmp};
+    ghost use Rattle.std.specs.FinMap as map;
+    ghost use Rattle.std.specs.FinSet as set;
+    ghost use Rattle.std.specs.Coded.{coded_list, coded_ℕ};
+
+    ghost Value = { map.FinMap (slice_cmp nat_cmp) (Unit {0}) };
+
+    ghost coded = { set.code (coded_list coded_ℕ) };
+
+    ghost view = { λ set. set.marks };
+}
+
+impl NameSet {
+    /// An empty set, which takes no memory yet.
+    pub fn new(alloc: Global) -> NameSet
+        ensures { result ≡ map.empty }
+    {
+        NameSet {
+            marks: Table::new(alloc),
+        }
+    }
+
+    /// Whether the name is in the set.
+    pub fn has(&self, name: &Name) -> bool
+        ensures { result ≡ map.contains_key self.now name.now }
+    {
+        self.marks.get(name).is_some()
+    }
+
+    /// Adds a name.
+    ///
+    /// # Errors
+    ///
+    /// `NoMemory` leaves the set as it was.
+    pub fn add(&mut self, name: Name) -> Result<(), NoMemory>
+        ensures ok { OnOk result (self.new ≡ map.insert self.old name tt) }
+        ensures err { OnErr result (self.new ≡ self.old) }
+    {
+        self.marks.put(name, ())
+    }
+}
