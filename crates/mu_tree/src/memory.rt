@@ -1,6 +1,6 @@
 ghost use Rattle.std.specs.Prelude.{◌≡◌};
 
-use std::alloc::AllocError;
+use std::alloc::{AllocError, AllocFailed};
 
 /// Memory ran out.
 #[derive(Clone, Copy, Debug, PartialEq, Eq)]
@@ -10,6 +10,14 @@ impl From<AllocError> for NoMemory {
     ghost from_gives = { λ _ r. r ≡ record {} };
 
     fn from(_error: AllocError) -> NoMemory {
+        NoMemory
+    }
+}
+
+impl<T: Drop> From<AllocFailed<T>> for NoMemory {
+    ghost from_gives = { λ _ r. r ≡ record {} };
+
+    fn from(_error: AllocFailed<T>) -> NoMemory {
         NoMemory
     }
 }

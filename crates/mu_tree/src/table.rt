@@ -43,6 +43,13 @@ impl<V> Table<V> {
     {
         self.entries.get(name)
     }
+
+    /// Whether the map has a value at a name.
+    pub fn has(&self, name: &Name) -> bool
+        ensures { result ≡ map.contains_key self.now name.now }
+    {
+        self.get(name).is_some()
+    }
 }
 
 impl<V: Drop> Table<V> {
@@ -96,7 +103,7 @@ impl NameSet {
     pub fn has(&self, name: &Name) -> bool
         ensures { result ≡ map.contains_key self.now name.now }
     {
-        self.marks.get(name).is_some()
+        self.marks.has(name)
     }
 
     /// Adds a name.

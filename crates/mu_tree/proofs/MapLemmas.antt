@@ -1,0 +1,50 @@
+-- Finite maps by name, one name at a time.
+use Rattle.std.proofs.Common.{◌≡◌, ◌⊎◌, inl, inr, refl, sym, ap, subst, ◌∙◌, ℕ, Bool, true, false, cond, List, Some, None}
+use Rattle.std.specs.Prelude.{Option, is_some}
+use Rattle.std.specs.Ordering.{nat_cmp, eq_by_cmp, is_eq}
+use Rattle.std.specs.Cmp.{tied_itself}
+use Rattle.std.specs.Cmp.Lexicographic.{slice_cmp, nat_list_cmp_total}
+use Rattle.std.specs.FinMap as map
+use Rattle.std.proofs.lemmas.Bool.{false≢true, cases_Bool}
+use Rattle.std.proofs.lemmas.Map.Lookups.{exact_bytes}
+use Rattle.std.proofs.lemmas.Map.Views.{tells_apart}
+use Rattle.mu_tree.specs.Maps.{MapOf}
+
+-- two names are one or they are not
+pub same_name : (a b : List ℕ) → (a ≡ b) ⊎ (a ≡ b → ⊥)
+same_name a b = elim (cases_Bool (eq_by_cmp (slice_cmp nat_cmp) a b)) [
+  | inl e ↦ inl (tells_apart exact_bytes a b e)
+  | inr n ↦ inr (λ e. false≢true (sym n ∙ subst (λ c. eq_by_cmp (slice_cmp nat_cmp) a c ≡ true) e (ap is_eq (tied_itself nat_list_cmp_total a))))
+]
+
+apart : (a b : List ℕ) → (a ≡ b → ⊥) → eq_by_cmp (slice_cmp nat_cmp) a b ≡ false
+apart a b n = elim (cases_Bool (eq_by_cmp (slice_cmp nat_cmp) a b)) [ inl e ↦ absurd (n (tells_apart exact_bytes a b e)) | inr f ↦ f ]
+
+itself : (a : List ℕ) → eq_by_cmp (slice_cmp nat_cmp) a a ≡ true
+itself a = ap is_eq (tied_itself nat_list_cmp_total a)
+
+module _ {V : Type 0} (m : MapOf V) (k : List ℕ) (v : V) where
+  -- at the name itself
+  pub get-insert_here : map.get (map.insert m k v) k ≡ Some v
+  get-insert_here = map.get-insert nat_list_cmp_total m k v k ∙ ap (λ b. cond b (Some v) (map.get m k)) (itself k)
+
+  -- at every other name
+  pub get-insert_other : (q : List ℕ) → (k ≡ q → ⊥) → map.get (map.insert m k v) q ≡ map.get m q
+  get-insert_other q n = map.get-insert nat_list_cmp_total m k v q ∙ ap (λ b. cond b (Some v) (map.get m q)) (apart q k (λ e. n (sym e)))
+
+  -- what holds of the new entry and of all that were there holds of each entry
+  pub inserted : (P : List ℕ → V → Type 0) → P k v → ((q : List ℕ) (w : V) → map.get m q ≡ Some w → P q w) → (q : List ℕ) (w : V) → map.get (map.insert m k v) q ≡ Some w → P q w
+  inserted P here there q w is = elim (same_name k q) [
+    | inl e ↦ subst (λ r. P r w) e (subst (λ u. P k u) (let same : v ≡ w = some_same (sym get-insert_here ∙ ap (map.get (map.insert m k v)) e ∙ is) in same) here)
+    | inr n ↦ there q w (sym (get-insert_other q n) ∙ is)
+  ]
+    where
+      some_same : {A : Type 0} {x y : A} → Some x ≡ Some y → x ≡ y
+      some_same e = cc
+
+  -- a name that was there is there
+  pub contains_key-insert : (q : List ℕ) → map.contains_key m q ≡ true → map.contains_key (map.insert m k v) q ≡ true
+  contains_key-insert q is = elim (same_name k q) [
+    | inl e ↦ ap is_some (ap (map.get (map.insert m k v)) (sym e) ∙ get-insert_here)
+    | inr n ↦ ap is_some (get-insert_other q n) ∙ is
+  ]
