@@ -1,1 +1,5 @@
 pub mod Seen
+pub mod Counts
+pub mod Pieces
+pub mod Logs
+pub mod Desks
