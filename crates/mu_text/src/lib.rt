@@ -5,4 +5,4 @@ mod token;
 mod tokens;
 
 pub use token::{Token, TokenSort, text};
-pub use tokens::Tokens;
+pub use tokens::{Tokens, is_blank};

@@ -4,8 +4,10 @@ ghost use Rattle.mu_text.specs.Tokens.{tokens};
 
 mod lexer;
 
+pub use lexer::is_blank;
+
 use crate::token::Token;
-use lexer::{after, first_token, is_blank, split};
+use lexer::{after, first_token, split};
 use mu_tree::NoMemory;
 use std::alloc::{AllocError, Global};
 use std::marker::Model;

@@ -13,7 +13,8 @@ const MOST_DOTS: usize = 2;
 /// The most digits that a place has.
 const MOST_DIGITS: usize = 9;
 
-pub(crate) fn is_blank(byte: u8) -> bool
+/// Whether the byte is a blank, which may stand between tokens: a space, a tab or a carriage return.
+pub fn is_blank(byte: u8) -> bool
     ensures { result ≡ blank_test byte }
 {
     byte == b' ' || byte == b'\t' || byte == b'\r'

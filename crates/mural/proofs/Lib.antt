@@ -1,0 +1,6 @@
+mod Ends
+mod Forms
+mod Known
+mod Pieces
+mod Serving
+mod Validity

@@ -1,0 +1,53 @@
+ghost use Rattle.std.specs.Prelude.{◌≡◌, IfOk};
+ghost use Rattle.mural.specs.Steps.{told_as, is_refusal as refusal_test, refusal_words};
+
+use crate::reply::Reply;
+use mu_tree::{Bytes, NoMemory, Refusal};
+use std::alloc::Global;
+
+/// The bytes that tell a reply.
+pub(crate) fn reply_text(alloc: Global, reply: Reply) -> Result<Bytes, NoMemory>
+    ensures { IfOk result (λ text. text ≡ told_as reply) }
+{
+    match reply {
+        Reply::Accepted => {
+            let text = Vec::from_slice(alloc, b"ok\n")?;
+            Ok(Bytes::from_vec(text))
+        }
+        Reply::Page(text) => Ok(text),
+        Reply::Refused(refusal) => {
+            let mut text = Vec::from_slice(alloc, b"refused ")?;
+            text.extend_from_slice(refusal_text(alloc, &refusal)?.items())?;
+            text.push(b'\n')?;
+            Ok(Bytes::from_vec(text))
+        }
+    }
+}
+
+fn refusal_text(alloc: Global, refusal: &Refusal) -> Result<Bytes, NoMemory>
+    ensures { IfOk result (λ text. text ≡ refusal_words refusal.now) }
+{
+    let mut text = Vec::new(alloc);
+    match refusal {
+        Refusal::Syntax(column) => {
+            text.extend_from_slice(b"syntax ")?;
+            text.extend_from_slice(column.to_string(alloc)?.as_bytes())?;
+        }
+        Refusal::Unknown(name) => {
+            text.extend_from_slice(b"unknown ")?;
+            text.extend_from_slice(name.bytes())?;
+        }
+        Refusal::Taken(name) => {
+            text.extend_from_slice(b"taken ")?;
+            text.extend_from_slice(name.bytes())?;
+        }
+    }
+    Ok(Bytes::from_vec(text))
+}
+
+/// Whether the reply is a refusal.
+pub(crate) fn is_refusal(reply: &Reply) -> bool
+    ensures { result ≡ refusal_test reply.now }
+{
+    matches!(reply, Reply::Refused(_))
+}
