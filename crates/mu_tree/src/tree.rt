@@ -41,3 +41,21 @@ impl Tree {
         Ok(copies)
     }
 }
+
+#[cfg(test)]
+mod tests {
+    use super::*;
+    use std::test::Fail;
+
+    #[test]
+    fn copies_with_all_arguments(rt: HostRuntime) -> Result<(), Fail> {
+        let alloc = rt.alloc();
+        let mut arguments = Trees::new(alloc);
+        arguments.push(Tree::App(Name::read(alloc, b"x")?, Trees::new(alloc)))?;
+        let tree = Tree::App(Name::read(alloc, b"f")?, arguments);
+        let Tree::App(name, copies) = tree.copy(alloc)?;
+        assert!(rt; name.bytes() == b"f".as_slice());
+        assert!(rt; copies.len() == 1);
+        Ok(())
+    }
+}
