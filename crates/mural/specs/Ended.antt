@@ -1,9 +1,10 @@
 -- How a run may end.
-use Rattle.std.specs.Prelude.{◌≡◌, ◌⊎◌, ℕ, ◌≤◌, ◌<◌, Bool, true, false, List, [], length, Option, Some}
+use Rattle.std.specs.Prelude.{◌≡◌, ◌⊎◌, ℕ, ◌≤◌, ◌<◌, Bool, true, false, List, [], ◌++◌, length, Option, Some}
 use Rattle.std.specs.Io.KnownBytes.{append_known}
 use Rattle.mu_outside.specs.Seen.{Seen, Rose}
-use Rattle.mural.specs.Lines.{due_lines, most_input}
-use Rattle.mural.specs.Replies.{replies_to, told_bytes, some_refused}
+use Rattle.mural.specs.Lines.{whole_lines, due_lines, most_input}
+use Rattle.mural.specs.Stores.{nothing}
+use Rattle.mural.specs.Replies.{replies, replies_to, told_bytes, some_refused}
 use Rattle.mural.specs.Served.{TellsFront}
 use Rattle.mural.specs.declared.reader.Stop.{Stop}
 use Rattle.mural.specs.declared.reader.Stop.TheVariants as stop
@@ -30,12 +31,18 @@ pub record IsDone (input : List ℕ) (start : Option (List ℕ)) (now : Seen) : 
   pub read : now.left ≡ Some []
   pub told : TellsAll input start now
 
+-- the input could be read so far and no further: what is told are the replies to the whole lines of what was read
+pub record IsCutOff (input : List ℕ) (start : Option (List ℕ)) (now : Seen) (read rest : List ℕ) : Type 0 where
+  pub input_is : input ≡ read ++ rest
+  pub left : now.left ≡ Some rest
+  pub told : now.told ≡ append_known start (told_bytes (replies nothing (whole_lines read)))
+
 -- what a run over this input has told, by how it ended, after what was told at its start
 abbrev pub Ended : List ℕ → Option (List ℕ) → Seen → Status → Type 0
 Ended input start now AllAccepted = IsDone input start now × (some_refused (replies_to input) ≡ false)
 Ended input start now SomeRefused = IsDone input start now × (some_refused (replies_to input) ≡ true)
 Ended input start now Usage = now.told ≡ start
-Ended input start now ReadFault = TellsFront start (due_lines input) now.told
+Ended input start now ReadFault = (read rest : List ℕ) × IsCutOff input start now read rest
 Ended input start now TellFault = TellsFront start (due_lines input) now.told
 Ended input start now NoMemory = TellsFront start (due_lines input) now.told
 Ended input start now InputTooLong = (most_input < length input) × TellsAll input start now

@@ -1,4 +1,4 @@
-ghost use Rattle.std.specs.Prelude.{◌≡◌, IfOk};
+ghost use Rattle.std.specs.Prelude.{◌≡◌, IfOk, OnErr};
 ghost use Rattle.mural.specs.Steps.{touches_base as base_test};
 ghost use Rattle.mural.specs.Replies.{is_quiet as quiet_test, answer};
 
@@ -25,7 +25,8 @@ pub(crate) fn answer_line(
     store: &mut Store,
     line: &[u8],
 ) -> Result<Option<Reply>, NoMemory>
-    ensures { IfOk result (λ reply. answer store.old line.now ≡ record { entries = store.new; reply = reply }) }
+    ensures ok { IfOk result (λ reply. answer store.old line.now ≡ record { entries = store.new; reply = reply }) }
+    ensures err { OnErr result (store.new ≡ store.old) }
 {
     if line.len() > LONGEST_LINE {
         return Ok(Some(no_command()));

@@ -88,3 +88,6 @@ pub fn run<O: Outside>(alloc: Global, words: &[String], out: &mut O) -> Status
     }
     serve(alloc, out)
 }
+
+#[cfg(test)]
+mod tests;

@@ -1,4 +1,4 @@
-ghost use Rattle.std.specs.Prelude.{◌≡◌, false, IfOk};
+ghost use Rattle.std.specs.Prelude.{◌≡◌, false, IfOk, OnErr};
 ghost use Rattle.std.specs.FinMap as map;
 ghost use Rattle.mural.specs.Stores.{Entries, nothing, IsValid, IsPlain, IsStorable};
 ghost use Rattle.mural.specs.Statuses.{status_of, is_well_formed, is_expression};
@@ -55,7 +55,8 @@ impl Store {
     /// `NoMemory` leaves the store as it was.
     pub fn step(&mut self, alloc: Global, command: Command) -> Result<Reply, NoMemory>
         requires { IsStorable command }
-        ensures { IfOk result (λ reply. step self.old command ≡ record { entries = self.new; reply = reply }) }
+        ensures ok { IfOk result (λ reply. step self.old command ≡ record { entries = self.new; reply = reply }) }
+        ensures err { OnErr result (self.new ≡ self.old) }
     {
         match command {
             Command::Theory(theory) => self.add_theory(theory),
@@ -68,7 +69,8 @@ impl Store {
     #[tactic(auto, unfolding(crate::specs::Steps::step))]
     fn add_theory(&mut self, theory: Name) -> Result<Reply, NoMemory>
         requires { IsStorable (Command.Theory theory) }
-        ensures { IfOk result (λ reply. step self.old (Command.Theory theory) ≡ record { entries = self.new; reply = reply }) }
+        ensures ok { IfOk result (λ reply. step self.old (Command.Theory theory) ≡ record { entries = self.new; reply = reply }) }
+        ensures err { OnErr result (self.new ≡ self.old) }
     {
         if self.theories.has(&theory) {
             return Ok(Reply::Refused(Refusal::Taken(theory)));
@@ -80,7 +82,8 @@ impl Store {
     #[tactic(auto, unfolding(crate::specs::Steps::step))]
     fn add_constant(&mut self, theory: Name, constant: Name) -> Result<Reply, NoMemory>
         requires { IsStorable (Command.Const theory constant) }
-        ensures { IfOk result (λ reply. step self.old (Command.Const theory constant) ≡ record { entries = self.new; reply = reply }) }
+        ensures ok { IfOk result (λ reply. step self.old (Command.Const theory constant) ≡ record { entries = self.new; reply = reply }) }
+        ensures err { OnErr result (self.new ≡ self.old) }
     {
         if !self.theories.has(&theory) {
             return Ok(Reply::Refused(Refusal::Unknown(theory)));
@@ -95,7 +98,8 @@ impl Store {
     #[tactic(auto, unfolding(crate::specs::Steps::step))]
     fn add_axiom(&mut self, theory: Name, rule: Name, claim: Tree) -> Result<Reply, NoMemory>
         requires { IsStorable (Command.Axiom theory rule claim) }
-        ensures { IfOk result (λ reply. step self.old (Command.Axiom theory rule claim) ≡ record { entries = self.new; reply = reply }) }
+        ensures ok { IfOk result (λ reply. step self.old (Command.Axiom theory rule claim) ≡ record { entries = self.new; reply = reply }) }
+        ensures err { OnErr result (self.new ≡ self.old) }
     {
         if !self.theories.has(&theory) {
             return Ok(Reply::Refused(Refusal::Unknown(theory)));

@@ -7,7 +7,7 @@ use Rattle.mural.specs.Replies.{replies, told_bytes, some_refused}
 use Rattle.mural.specs.Served.{Served}
 use Rattle.mural.proofs.Serving.{front_all}
 use Rattle.mural.proofs.Ends.{served_on, taken_part, stop_front, input_too_long, input_ends, all_due, front_due, ended_stop, ended_done}
-use Rattle.mural.proofs.Known.{prepend_twice}
+use Rattle.mural.proofs.Known.{prepend_twice, whole_input}
 use Rattle.mural.proofs.running.serve.Goals as goal
 
 pub returns-in-Err-clause-ended : goal.returns-in-Err-clause-ended
@@ -15,8 +15,8 @@ returns-in-Err-clause-ended g c input is =
     let start = (g.O.Outside.seen c.args.out.now).told in
     let bytes : List ℕ = c.loop-taken.invariant.0 in
     let i = c.loop-taken.invariant.1 in
-    stop_front start (g.O.Outside.seen c.take.new.self).told (g.O.Outside.seen c.args.out.now).left (g.O.Outside.seen c.loop-taken.out).left bytes input i.left is i.most
-    (front_all start (g.O.Outside.seen c.take.new.self).told (whole_lines bytes) (c.take.ensures.rest.told ∙ i.served.told_is))
+    let all = whole_input (g.O.Outside.seen c.args.out.now).left (g.O.Outside.seen c.loop-taken.out).left bytes input i.left is in
+    (bytes, all.0, record { input_is = all.1; left = c.in-Err.ensures.input ∙ all.2; told = c.take.ensures.rest.told ∙ i.served.told_is })
 
 pub returns-in-Err-feed-clause-ended : goal.returns-in-Err-feed-clause-ended
 returns-in-Err-feed-clause-ended g c input is =
