@@ -1,13 +1,13 @@
 -- How a run over an input ends.
-use Rattle.std.proofs.Common.{◌≡◌, ◌⊎◌, inl, inr, ⊎_elim, ◌+◌, ◌-◌, ◌≤◌, ◌<◌, ◌^◌, ℕ, Bool, true, false, List, [], ◌∷◌, ◌++◌, length, take, drop, refl, sym, ◌∙◌, ap, subst, Option, None, Some, arith, append_assoc, take-append-drop, length-append, min}
-use Rattle.std.proofs.lemmas.List.{append-nil, take-take, length-take, length-drop}
-use Rattle.std.specs.Io.KnownBytes.{append_known, prepend_known, IsAtEnd}
+use Rattle.std.proofs.Common.{◌≡◌, inl, inr, ◌≤◌, ◌<◌, ℕ, Bool, true, false, List, [], ◌∷◌, ◌++◌, length, take, drop, refl, sym, ◌∙◌, ap, subst, Option, Some, arith, append_assoc, take-append-drop, length-append}
+use Rattle.std.proofs.lemmas.List.{append-nil, take-take}
+use Rattle.std.specs.Io.KnownBytes.{prepend_known, IsAtEnd}
 use Rattle.mu_outside.specs.Seen.{Seen, Rose}
 use Rattle.mural.specs.Lines.{whole_lines, lines, due_lines, most_input}
 use Rattle.mural.specs.Stores.{Entries, nothing}
-use Rattle.mural.specs.Replies.{replies, told_bytes, some_refused, replies_to}
+use Rattle.mural.specs.Replies.{replies, some_refused, replies_to}
 use Rattle.mural.specs.Served.{Served, TellsFront}
-use Rattle.mural.specs.Ended.{Ended, HasRisen, IsComplete, IsDone, TellsAll, of_stop, of_refused}
+use Rattle.mural.specs.Ended.{Ended, HasRisen, IsComplete, IsDone, of_stop, of_refused}
 use Rattle.mural.specs.declared.reader.Stop.{Stop}
 use Rattle.mural.specs.declared.reader.Stop.TheVariants as stop
 use Rattle.mural.specs.declared.status.Status.{Status}

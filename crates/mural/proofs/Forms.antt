@@ -1,7 +1,6 @@
 -- What the forms say of a list of tokens that is not of their length, and of the names in a command.
-use Rattle.std.proofs.Common.{◌≡◌, ◌≤◌, ◌<◌, ℕ, Bool, true, false, List, [], ◌∷◌, length, refl, arith, map}
-use Rattle.std.specs.Prelude.{Option, None, ◌||◌}
-use Rattle.std.proofs.lemmas.List.{length-map}
+use Rattle.std.proofs.Common.{◌≡◌, Bool, true, false, List, [], ◌∷◌, length, refl}
+use Rattle.std.specs.Prelude.{None, ◌||◌}
 use Rattle.mural.specs.Grammar.{Lexeme}
 use Rattle.mural.specs.Base.{is_base, is_base_constant}
 use Rattle.mural.specs.Stores.{IsStorable}

@@ -1,6 +1,11 @@
+mod Canonical
 mod Ends
 mod Forms
 mod Known
+mod Lawful
 mod Pieces
+mod Readings
+mod Scans
 mod Serving
+mod Standing
 mod Validity

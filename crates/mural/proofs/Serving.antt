@@ -1,6 +1,6 @@
 -- Lines answered after lines.
-use Rattle.std.proofs.Common.{◌≡◌, ◌⊎◌, inl, inr, ◌+◌, ◌-◌, ◌≤◌, ◌<◌, ℕ, Bool, true, false, List, [], ◌∷◌, ◌++◌, length, take, drop, refl, sym, ◌∙◌, ap, subst, Option, None, Some, arith, append_assoc, take-append-drop, length-append}
-use Rattle.std.specs.Prelude.{slice_index_or, ◌||◌, nat_lt, ◌==◌, Result, Ok, Err, OnOk, OnErr}
+use Rattle.std.proofs.Common.{◌≡◌, inl, inr, ◌+◌, ◌≤◌, ◌<◌, ℕ, Bool, true, false, List, [], ◌∷◌, ◌++◌, length, take, drop, refl, sym, ◌∙◌, ap, subst, Option, arith, append_assoc, take-append-drop, length-append}
+use Rattle.std.specs.Prelude.{slice_index_or, ◌||◌, nat_lt, Result, Ok, Err, OnOk, OnErr}
 use Rattle.std.proofs.lemmas.Bool.{cond-true, lt-ltb}
 use Rattle.std.proofs.lemmas.Bool.Decides.{leb_tells}
 use Rattle.std.proofs.lemmas.Grind.{flat_map-append}
@@ -12,7 +12,7 @@ use Rattle.mural.specs.Stores.{Entries, nothing}
 use Rattle.mural.specs.Replies.{Answer, no_command, longest_line, answer, replies, entries_after, told_for, told_bytes, refuses, some_refused}
 use Rattle.mural.specs.Served.{Served, IsFront, TellsFront, kept_length}
 use Rattle.mural.specs.declared.reply.Reply.{Reply}
-use Rattle.mural.proofs.Known.{append_twice, append_none}
+use Rattle.mural.proofs.Known.{append_twice}
 use Rattle.mural.proofs.Pieces.{whole_lines_feed, unfinished_feed, whole_lines_byte, unfinished_byte, whole_lines-append}
 
 replies-append : (entries : Entries) (xs ys : List (List ℕ)) → replies entries (xs ++ ys) ≡ replies entries xs ++ replies (entries_after entries xs) ys

@@ -1,11 +1,10 @@
 -- A store stays valid.
-use Rattle.std.proofs.Common.{◌≡◌, ◌⊎◌, ℕ, true, false, List, Some, None, refl, sym, ◌∙◌, ap, subst}
+use Rattle.std.proofs.Common.{◌≡◌, ℕ, true, false, List, Some, None, refl, sym, ◌∙◌, ap}
 use Rattle.std.specs.Prelude.{Option, is_some}
 use Rattle.std.specs.FinMap as map
 use Rattle.std.proofs.lemmas.Bool.{false≢true}
 use Rattle.std.specs.Ordering.{nat_cmp}
 use Rattle.std.specs.Cmp.Lexicographic.{slice_cmp}
-use Rattle.mu_tree.specs.Maps.{MapOf, NamesOf}
 use Rattle.mu_tree.proofs.MapLemmas.{inserted, contains_key-insert}
 use Rattle.mural.specs.Base.{is_base, is_base_constant}
 use Rattle.mural.specs.Stores.{Entries, nothing, IsValid, IsPlain, IsTheory}

@@ -1,10 +1,7 @@
 -- Which command a line reads as.
-use Rattle.std.specs.Prelude.{◌≡◌, ℕ, Bool, true, false, ◌&&◌, if◌then◌else◌, List, [], ◌∷◌, ◌++◌, map, drop, Option, Some, None, codes}
-use Rattle.std.specs.Bool.{nat_eq}
+use Rattle.std.specs.Prelude.{◌≡◌, ℕ, Bool, false, List, [], ◌∷◌, map, drop, codes}
 use Rattle.std.specs.List.{list_all}
-use Rattle.std.specs.Cmp.Lexicographic.{pointwise}
-use Rattle.mu_tree.specs.Names.{is_segment, is_name, is_short}
-use Rattle.mu_tree.specs.declared.tree.Tree.{Tree}
+use Rattle.mu_tree.specs.Names.{is_short}
 use Rattle.mu_tree.specs.declared.tree.Tree.TheVariants as tree
 use Rattle.mu_text.specs.declared.token.Token.{Token}
 use Rattle.mu_text.specs.declared.token.TokenSort.{TokenSort}

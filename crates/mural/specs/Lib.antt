@@ -10,3 +10,4 @@ pub mod Steps
 pub mod Stores
 pub mod Views
 pub mod Ended
+pub mod Laws

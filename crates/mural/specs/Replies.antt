@@ -1,5 +1,5 @@
 -- The replies to the lines of an input.
-use Rattle.std.specs.Prelude.{◌≡◌, ℕ, Bool, true, false, ◌==◌, nat_lt, if◌then◌else◌, List, [], ◌∷◌, ◌++◌, length, Option, Some, None}
+use Rattle.std.specs.Prelude.{ℕ, Bool, true, false, ◌==◌, nat_lt, if◌then◌else◌, List, [], ◌∷◌, length, Option, Some, None}
 use Rattle.std.specs.List.{flat_map, list_any}
 use Rattle.mu_tree.specs.declared.refusal.Refusal.TheVariants.{Syntax}
 use Rattle.mu_text.specs.Reading.{is_blank}

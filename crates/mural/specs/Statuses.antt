@@ -1,5 +1,5 @@
 -- When an axiom is established.
-use Rattle.std.specs.Prelude.{◌≡◌, ℕ, ◌&&◌, ◌||◌, Bool, true, false, if◌then◌else◌, List, [], ◌∷◌, Option, Some, None, Contains}
+use Rattle.std.specs.Prelude.{◌≡◌, ◌↔◌, ℕ, ◌||◌, Bool, true, false, if◌then◌else◌, List, [], ◌∷◌, Option, Some, None, Contains}
 use Rattle.std.specs.FinMap as map
 use Rattle.std.specs.Cmp.Lexicographic.{pointwise}
 use Rattle.std.specs.Bool.{nat_eq}
@@ -46,7 +46,7 @@ IsEstablished entries rule = (derivation : List (List ℕ)) × IsDerivation entr
 abbrev pub status_of : Entries → Statement → RuleStatus
 status_of entries statement = if is_well_formed entries statement then Established else IllFormed
 
--- the status words mean what they say: established exactly where some derivation has the rule, and else its claim is not well formed
-abbrev pub HasStatus : Entries → List ℕ → Statement → RuleStatus → Type 0
-HasStatus entries rule statement Established = IsEstablished entries rule
-HasStatus entries rule statement IllFormed = (is_well_formed entries statement ≡ false) × (IsEstablished entries rule → ⊥)
+-- the status is established exactly where some derivation has the rule, and ill-formed exactly where the rule's statement is not well formed
+pub record HasStatus (entries : Entries) (rule : List ℕ) (statement : Statement) (status : RuleStatus) : Type 0 where
+  pub established : (status ≡ Established) ↔ IsEstablished entries rule
+  pub ill_formed : (status ≡ IllFormed) ↔ (is_well_formed entries statement ≡ false)

@@ -1,12 +1,9 @@
 -- One command carried out on a store, and its reply.
-use Rattle.std.specs.Prelude.{ℕ, Bool, true, false, ◌==◌, ◌||◌, ◌++◌, if◌then◌else◌, List, [], ◌∷◌, Option, Some, None, codes}
+use Rattle.std.specs.Prelude.{ℕ, Bool, true, false, ◌||◌, ◌++◌, if◌then◌else◌, List, [], ◌∷◌, Option, Some, None, codes}
 use Rattle.std.specs.Fmt.{decimal}
 use Rattle.std.specs.FinMap as map
-use Rattle.std.specs.Cmp.Lexicographic.{pointwise}
-use Rattle.std.specs.Bool.{nat_eq}
 use Rattle.mu_tree.specs.declared.refusal.Refusal.{Refusal}
 use Rattle.mu_tree.specs.declared.refusal.Refusal.TheVariants.{Syntax, Unknown, Taken}
-use Rattle.mu_tree.specs.declared.tree.Tree.{Tree}
 use Rattle.mural.specs.Base.{is_base, is_base_constant}
 use Rattle.mural.specs.Stores.{Entries}
 use Rattle.mural.specs.Statuses.{status_of}

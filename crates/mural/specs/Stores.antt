@@ -1,5 +1,5 @@
 -- What a store holds, and when it is valid.
-use Rattle.std.specs.Prelude.{◌≡◌, ℕ, ◌⊎◌, Bool, true, false, List, Some, None}
+use Rattle.std.specs.Prelude.{◌≡◌, ℕ, true, false, List, Some}
 use Rattle.std.specs.FinMap as map
 use Rattle.mu_tree.specs.Maps.{MapOf, NamesOf}
 use Rattle.mu_tree.specs.Names.{is_segment}

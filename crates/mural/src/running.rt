@@ -1,6 +1,7 @@
 ghost use Rattle.std.specs.Prelude.{◌≡◌, ◌≢◌, ◌<◌, ◌↔◌, [], ℕ, List, Some, length};
 ghost use Rattle.mu_outside.specs.Seen.{Rose};
 ghost use Rattle.mural.specs.Ended.{Ended, HasRisen, IsComplete, of_stop, of_refused};
+ghost use Rattle.mural.specs.Laws.{Laws};
 
 use crate::reader::{Reader, Stop};
 use crate::status::Status;
@@ -82,6 +83,9 @@ pub fn run<O: Outside>(alloc: Global, words: &[String], out: &mut O) -> Status
         → (Rose (O.seen out.old).read_faults (O.seen out.new).read_faults → ⊥)
         → (Rose (O.seen out.old).tell_faults (O.seen out.new).tell_faults → ⊥)
         → IsComplete input result }
+
+    // Lines are read, and status words told, as the laws say.
+    ensures laws { Laws }
 {
     if !words.is_empty() {
         return Status::Usage;

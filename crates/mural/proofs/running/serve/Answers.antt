@@ -1,10 +1,9 @@
-use Rattle.std.proofs.Common.{◌≡◌, ◌∙◌, ◌-◌, ◌^◌, ◌<◌, ◌≤◌, ◌++◌, ℕ, List, Some, length, take, drop, min, sym, ap, refl, arith, rules, length-append}
-use Rattle.std.proofs.lemmas.List.{append-nil, length-take, length-take-le, length-drop, take-take}
+use Rattle.std.proofs.Common.{◌≡◌, ◌∙◌, ◌-◌, ◌^◌, ◌<◌, ◌≤◌, ◌++◌, ℕ, List, length, take, drop, min, sym, ap, arith, rules, length-append}
+use Rattle.std.proofs.lemmas.List.{length-take, length-take-le, length-drop}
 use Rattle.std.specs.Io.KnownBytes.{append_known, prepend_known}
-use Rattle.mural.specs.Lines.{whole_lines, due_lines, most_input}
+use Rattle.mural.specs.Lines.{whole_lines, most_input}
 use Rattle.mural.specs.Stores.{nothing}
 use Rattle.mural.specs.Replies.{replies, told_bytes, some_refused}
-use Rattle.mural.specs.Served.{Served}
 use Rattle.mural.proofs.Serving.{front_all}
 use Rattle.mural.proofs.Ends.{served_on, taken_part, stop_front, input_too_long, input_ends, all_due, front_due, ended_stop, ended_done}
 use Rattle.mural.proofs.Known.{prepend_twice, whole_input}
