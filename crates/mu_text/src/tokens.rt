@@ -4,9 +4,8 @@ ghost use Rattle.mu_text.specs.Tokens.{tokens};
 
 mod lexer;
 
-pub use lexer::is_blank;
-
 use crate::token::Token;
+pub use lexer::is_blank;
 use lexer::{after, first_token, split};
 use mu_tree::NoMemory;
 use std::alloc::{AllocError, Global};
