@@ -1,2 +1,3 @@
-pub mod Names
 pub mod Maps
+pub mod Names
+pub mod Trees

@@ -1,6 +1,8 @@
 -- Names: one to three segments joined by dots.
 use Rattle.std.specs.Prelude.{◌≡◌, ℕ, Bool, true, false, ◌&&◌, ◌||◌, ◌==◌, nat_le, List, [], ◌∷◌, length}
-use Rattle.std.specs.List.{list_all, slice_split}
+use Rattle.std.specs.Bool.{nat_eq}
+use Rattle.std.specs.List.{list_all, list_any, slice_split}
+use Rattle.std.specs.Cmp.Lexicographic.{pointwise}
 
 -- an ASCII letter
 abbrev pub is_letter : ℕ → Bool
@@ -39,3 +41,7 @@ is_short text = list_all (λ segment. nat_le (length segment) 64) (segments text
 pub record IsName (text : List ℕ) : Type 0 where
   pub spelled : is_name text ≡ true
   pub short : is_short text ≡ true
+
+-- whether a name is among some
+abbrev pub is_among : List (List ℕ) → List ℕ → Bool
+is_among names name = list_any (λ other. pointwise nat_eq other name) names

@@ -2,17 +2,23 @@
 #![tactic(auto)]
 
 mod bytes;
+mod claim;
+mod duplicate;
 mod memory;
 mod name;
 mod refusal;
 mod sequence;
 mod table;
 mod tree;
+mod why;
 
 pub use bytes::{is_letter, is_name_byte};
+pub use claim::{Claim, Definition, Hyp, Hyps, Kind, Kinds, Shape, TypedVar, TypedVars};
+pub use duplicate::Duplicate;
 pub use memory::NoMemory;
-pub use name::{Name, NameFault};
+pub use name::{Name, NameFault, Names};
 pub use refusal::Refusal;
 pub use sequence::{Bytes, Numbers, Sequence};
 pub use table::{NameSet, Table};
 pub use tree::{Tree, Trees};
+pub use why::{Given, Inst, Ref, Refs, Why};

@@ -4,10 +4,11 @@ ghost use Rattle.std.specs.List.{list_all, slice_split};
 ghost use Rattle.std.specs.Ordering.{nat_cmp};
 ghost use Rattle.std.specs.Cmp.{partial_equiv_from_equiv};
 ghost use Rattle.std.specs.Cmp.Lexicographic.{pointwise, slice_cmp, nat_list_eq_equiv, nat_list_cmp_total, texts_po, texts_ties};
-ghost use Rattle.mu_tree.specs.Names.{IsName, is_name as name_test, is_segment as segment_test, are_segments as segments_test, is_short as short_test, segments};
+ghost use Rattle.mu_tree.specs.Names.{IsName, is_name as name_test, is_segment as segment_test, are_segments as segments_test, is_short as short_test, segments, is_among};
 
 use crate::bytes::{are_name_bytes, is_letter};
 use crate::memory::NoMemory;
+use crate::sequence::Sequence;
 use std::alloc::{AllocError, Global};
 use std::cmp::Ordering;
 use std::marker::Model;
@@ -177,6 +178,18 @@ impl Ord for Name {
 
     fn cmp(&self, other: &Name) -> Ordering {
         self.bytes().cmp(other.bytes())
+    }
+}
+
+/// A list of names.
+pub type Names = Sequence<Name>;
+
+impl Sequence<Name> {
+    /// Whether a name is in the list.
+    pub fn contains(&self, name: &Name) -> bool
+        ensures { result ≡ is_among self.now name.now }
+    {
+        self.items().contains(name)
     }
 }
 

@@ -2,7 +2,7 @@
 use Rattle.std.specs.Prelude.{◌≡◌, ◌↔◌, ℕ, true, List, ◌++◌, Some, codes}
 use Rattle.std.specs.FinMap as map
 use Rattle.mu_tree.specs.declared.tree.Tree.{Tree, out-Tree}
-use Rattle.mu_tree.specs.declared.tree.Tree.TheOpen.{Tree-F, App}
+use Rattle.mu_tree.specs.declared.tree.Tree.TheOpen.{Tree-F, App, Meta, Bind}
 use Rattle.mural.specs.Stores.{Entries}
 use Rattle.mural.specs.Grammar.{Lexeme, lexemes, Reads, are_short}
 use Rattle.mural.specs.Commands.{command_of}
@@ -11,9 +11,11 @@ use Rattle.mural.specs.declared.statement.Statement.{Statement}
 use Rattle.mural.specs.declared.command.Command.{Command}
 use Rattle.mural.specs.declared.command.Command.TheVariants.{Theory, Const, Axiom, Status}
 
--- the head of an application
+-- the name at the top of a tree
 abbrev pub head_of : Tree-F Tree → List ℕ
 head_of (App constant arguments) = constant
+head_of (Meta meta arguments) = meta
+head_of (Bind binder var dom body) = binder
 
 -- the canonical text of a claim that is a constant without arguments
 abbrev pub claim_text : Tree → List ℕ

@@ -4,7 +4,7 @@ use Rattle.std.specs.FinMap as map
 use Rattle.std.specs.Cmp.Lexicographic.{pointwise}
 use Rattle.std.specs.Bool.{nat_eq}
 use Rattle.mu_tree.specs.declared.tree.Tree.{Tree, out-Tree}
-use Rattle.mu_tree.specs.declared.tree.Tree.TheOpen.{Tree-F, App}
+use Rattle.mu_tree.specs.declared.tree.Tree.TheOpen.{Tree-F, App, Meta, Bind}
 use Rattle.mural.specs.Base.{is_one_of, truth_values}
 use Rattle.mural.specs.Stores.{Entries}
 use Rattle.mural.specs.declared.statement.Statement.{Statement}
@@ -24,6 +24,8 @@ is_expression entries theory constant = is_one_of truth_values constant || stand
 abbrev pub is_well_formed_top : Entries → List ℕ → Tree-F Tree → Bool
 is_well_formed_top entries theory (App constant []) = is_expression entries theory constant
 is_well_formed_top entries theory (App constant (argument ∷ arguments)) = false
+is_well_formed_top entries theory (Meta meta arguments) = false
+is_well_formed_top entries theory (Bind binder var dom body) = false
 
 -- an axiom is well formed where its claim is so in its theory
 abbrev pub is_well_formed : Entries → Statement → Bool

@@ -141,6 +141,8 @@ impl Store {
             Tree::App(constant, arguments) => {
                 arguments.is_empty() && self.is_expression(&statement.theory, constant)
             }
+            Tree::Meta(_, _) => false,
+            Tree::Bind { .. } => false,
         }
     }
 
