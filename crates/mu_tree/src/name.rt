@@ -84,6 +84,17 @@ impl Name {
         Ok(Name { bytes })
     }
 
+    /// Some name, to stand where the bytes of one are not kept.
+    ///
+    /// # Errors
+    ///
+    /// `NoMemory`.
+    pub fn placeholder(alloc: Global) -> Result<Name, NoMemory>
+    {
+        let bytes = Vec::from_slice(alloc, b"x")?;
+        Ok(Name { bytes })
+    }
+
     /// The name's bytes.
     pub fn bytes(&self) -> &[u8]
         ensures all { result.now ≡ self.now }
