@@ -12,6 +12,7 @@ use Rattle.mural.specs.Grammar.{Lexeme}
 use Rattle.mural.specs.declared.command.Command.{Command}
 use Rattle.mural.specs.declared.command.Command.TheVariants.{Theory, Const, Axiom, Status}
 
+-- the token is a name
 abbrev pub is_name_sort : TokenSort → Bool
 is_name_sort Name = true
 is_name_sort Meta = false
@@ -19,6 +20,7 @@ is_name_sort Place = false
 is_name_sort Symbol = false
 is_name_sort Wrong = false
 
+-- the token is a symbol
 abbrev pub is_symbol_sort : TokenSort → Bool
 is_symbol_sort Name = false
 is_symbol_sort Meta = false

@@ -1,4 +1,4 @@
-ghost use Rattle.std.specs.Prelude.{◌≡◌};
+ghost use Rattle.std.specs.Prelude.{◌≡◌, ◌↔◌, ◌≤◌, IsSome};
 
 use thiserror::Error;
 
@@ -55,7 +55,9 @@ impl Status {
     }
 
     /// What is said of it on standard error: nothing where the input was read to its end.
-    pub fn fault(self) -> Option<Fault> {
+    pub fn fault(self) -> Option<Fault>
+        ensures { IsSome result ↔ (2 ≤ code_of self) }
+    {
         match self {
             Status::AllAccepted | Status::SomeRefused => None,
             Status::Usage => Some(Fault::Usage),
