@@ -1,0 +1,306 @@
+-- What is read was written so, and reading stops at the first token with which no writing begins.
+use Rattle.std.proofs.Common.{◌≡◌, ℕ, ◌+◌, ◌-◌, ◌<◌, ◌≤◌, List, [], ◌∷◌, ◌++◌, Bool, true, false, refl, ap, sym, ◌∙◌, subst, append_assoc, append-nil, length, take, length-append, arith}
+use Rattle.std.specs.Prelude.{nat_le, if◌then◌else◌}
+use Rattle.mu_text.specs.declared.symbol.Word.{Word}
+use Rattle.mu_text.specs.declared.symbol.Word.TheVariants.{Plain, Dotted, True, Meta, Place}
+use Rattle.mu_text.specs.declared.symbol.Mark.TheVariants.{Open, Close, Comma}
+use Rattle.mu_text.specs.declared.way.Beginning.{Beginning}
+use Rattle.mu_text.specs.declared.way.Beginning.TheVariants as begins
+use Rattle.mu_text.specs.declared.way.Opening.{Opening}
+use Rattle.mu_text.specs.declared.way.Opening.TheVariants as opens
+use Rattle.mu_text.specs.declared.way.Ending.{Ending}
+use Rattle.mu_text.specs.declared.way.Ending.TheVariants as ends
+use Rattle.mu_text.specs.Items.{Item, word, mark, bytes_of}
+use Rattle.mu_text.specs.Writings.{Writing, Writings, leaf, apply, one, more, tokens, tokens_of, is_head, takes_arguments, Fits, FitsAll, Begins, IsTree, Refused}
+use Rattle.mu_text.specs.Machine.{Stack, top, given, fill, Mode, want, named, have, Next, go, done, stop, open_level, begin, close_given, close, after_name, beginning, opening, ending, step, Out, found, stopped, finish, at_end, run}
+use Rattle.mu_text.proofs.Complete.{reads, run_go, le_from}
+
+-- the tokens of the arguments before, each with its comma
+abbrev pub earlier : List Writing → List Item
+earlier [] = []
+earlier (w ∷ vs) = earlier vs ++ (tokens w ++ (mark Comma ∷ []))
+
+-- the tokens that have been read
+abbrev pub before : Stack → List Item
+before top = []
+before (given head name vs n k) = before k ++ (word head name ∷ mark Open ∷ earlier vs)
+
+-- any writing
+abbrev pub some : Writing
+some = leaf Plain (97 ∷ [])
+
+-- the fewest tokens that end it
+abbrev pub behind : Stack → List Item
+behind top = []
+behind (given head name vs n k) = mark Close ∷ behind k
+
+-- the writing of all, where w is what was waited for and nothing follows that need not
+abbrev pub plug : Stack → Writing → Writing
+plug top w = w
+plug (given head name vs n k) w = plug k (apply head name (fill vs (one w)))
+
+abbrev pub FitsEach : ℕ → List Writing → Type 0
+FitsEach n [] = Unit {0}
+FitsEach n (w ∷ vs) = Fits n w × FitsEach n vs
+
+-- what waits is the front of a writing in which m levels may open, and n levels may open in what is waited for
+abbrev pub Valid : ℕ → ℕ → Stack → Type 0
+Valid m n top = n ≡ m
+Valid m n (given head name vs outer k) = (takes_arguments head ≡ true) × (0 < outer) × (n ≡ outer - 1) × FitsEach (outer - 1) vs × Valid m outer k
+
+abbrev pub Good : ℕ → Mode → Type 0
+Good m (want n k) = Valid m n k
+Good m (named head name n k) = (is_head head ≡ true) × Valid m n k
+Good m (have n w k) = Fits n w × Valid m n k
+
+-- all tokens that have been read
+abbrev pub seen : Mode → List Item
+seen (want n k) = before k
+seen (named head name n k) = before k ++ (word head name ∷ [])
+seen (have n w k) = before k ++ tokens w
+
+abbrev pub GoodNext : ℕ → List Item → Item → Next → Type 0
+GoodNext m front item (go mode) = Good m mode × (seen mode ≡ front ++ (item ∷ []))
+GoodNext m front item (done w) = Fits m w × (tokens w ≡ front)
+GoodNext m front item stop = Unit {0}
+
+tokens-fill : (vs : List Writing) (ws : Writings) → tokens_of (fill vs ws) ≡ earlier vs ++ tokens_of ws
+tokens-fill [] ws = refl
+tokens-fill (v ∷ vs) ws = tokens-fill vs (more v ws) ∙ simp append_assoc
+
+fits-fill : (n : ℕ) (vs : List Writing) (ws : Writings) → FitsEach n vs → FitsAll n ws → FitsAll n (fill vs ws)
+fits-fill n [] ws f g = g
+fits-fill n (v ∷ vs) ws f g = fits-fill n vs (more v ws) f.1 (f.0, g)
+
+tokens-plug : (k : Stack) (w : Writing) → tokens (plug k w) ≡ before k ++ (tokens w ++ behind k)
+tokens-plug top w = sym (append-nil (tokens w))
+tokens-plug (given head name vs n k) w = tokens-plug k (apply head name (fill vs (one w))) ∙ rw (tokens-fill vs (one w)) (simp append_assoc)
+
+move : (i j : ℕ) (w : Writing) → i ≡ j → Fits i w → Fits j w
+move i j w e f = subst (λ (h : ℕ). Fits h w) e f
+
+fits-plug : (m n : ℕ) (k : Stack) (w : Writing) → Valid m n k → Fits n w → Fits m (plug k w)
+fits-plug m n top w v f = move n m w v f
+fits-plug m n (given head name vs outer k) w v f =
+    fits-plug m outer k (apply head name (fill vs (one w))) v.4 (v.0, v.1, fits-fill (outer - 1) vs (one w) v.3 (move n (outer - 1) w v.2 f))
+
+-- what has been read so far begins some writing
+pub alive : (m : ℕ) (mode : Mode) → Good m mode → Begins m (seen mode)
+alive m (want n k) g = (plug k some, word Plain (97 ∷ []) ∷ behind k, fits-plug m n k some g refl, tokens-plug k some)
+alive m (named head name n k) g = (plug k (leaf head name), behind k, fits-plug m n k (leaf head name) g.1 g.0, tokens-plug k (leaf head name) ∙ simp append_assoc)
+alive m (have n w k) g = (plug k w, behind k, fits-plug m n k w g.1 g.0, tokens-plug k w ∙ simp append_assoc)
+
+-- what the small answers say of the token
+pub at_head : (head : Word) (item : Item) → beginning item ≡ begins.Head head → (item ≡ word head (bytes_of item)) × (is_head head ≡ true)
+at_head head (word Place name) e = cc
+at_head Plain (word Plain name) e = (refl, refl)
+at_head Dotted (word Dotted name) e = (refl, refl)
+at_head True (word True name) e = (refl, refl)
+at_head Meta (word Meta name) e = (refl, refl)
+at_head head (word _ name) e = cc
+at_head head (mark _) e = cc
+
+pub at_opener : (head : Word) (item : Item) → opening head item ≡ opens.Arguments → (item ≡ mark Open) × (takes_arguments head ≡ true)
+at_opener Place item e = cc
+at_opener Meta item e = cc
+at_opener _ (word other name) e = cc
+at_opener _ (mark Open) e = (refl, refl)
+at_opener _ (mark _) e = cc
+
+pub at_close : (item : Item) → ending item ≡ ends.Closes → item ≡ mark Close
+at_close (word other name) e = cc
+at_close (mark Close) e = refl
+at_close (mark _) e = cc
+
+pub at_comma : (item : Item) → ending item ≡ ends.GoesOn → item ≡ mark Comma
+at_comma (word other name) e = cc
+at_comma (mark Comma) e = refl
+at_comma (mark _) e = cc
+
+-- each step keeps that what is read begins a writing
+open_good : (m : ℕ) (front : List Item) (item : Item) (n : ℕ) (mode : Mode) → (0 < n → GoodNext m front item (go mode)) → GoodNext m front item (open_level n mode)
+open_good m front item n mode h = pick (nat_le 1 n) (λ e. let i : 1 ≤ n = le_from 1 n e in h (omega arith))
+  where
+    pick : (b : Bool) → (b ≡ true → GoodNext m front item (go mode)) → GoodNext m front item (if b then go mode else stop)
+    pick true f = f refl
+    pick false f = tt
+
+given_good : (m n : ℕ) (head : Word) (name : List ℕ) (vs : List Writing) (outer : ℕ) (k : Stack) (w : Writing) (item : Item) → Valid m n (given head name vs outer k) → Fits n w
+    → (e : Ending) → ending item ≡ e → GoodNext m (before (given head name vs outer k) ++ tokens w) item (close_given head name vs outer w k e)
+given_good m n head name vs outer k w item v f ends.Closes e =
+    let t : item ≡ mark Close = at_close item e in
+    (((v.0, v.1, fits-fill (outer - 1) vs (one w) v.3 (move n (outer - 1) w v.2 f)), v.4), rw (t, tokens-fill vs (one w)) (simp append_assoc))
+given_good m n head name vs outer k w item v f ends.GoesOn e =
+    let t : item ≡ mark Comma = at_comma item e in
+    ((v.0, v.1, refl, (move n (outer - 1) w v.2 f, v.3), v.4), rw t (simp append_assoc))
+given_good m n head name vs outer k w item v f ends.Nothing e = tt
+
+close_good : (k : Stack) (w : Writing) (item : Item) (m n : ℕ) → Valid m n k → Fits n w → GoodNext m (before k ++ tokens w) item (close k w item)
+close_good top w item m n v f = (move n m w v f, refl)
+close_good (given head name vs outer k) w item m n v f = given_good m n head name vs outer k w item v f (ending item) refl
+
+begin_good : (m n : ℕ) (k : Stack) (item : Item) → Valid m n k → (b : Beginning) → beginning item ≡ b → GoodNext m (before k) item (begin n k (bytes_of item) b)
+begin_good m n k item v (begins.Head head) e =
+    let t : (item ≡ word head (bytes_of item)) × (is_head head ≡ true) = at_head head item e in ((t.1, v), ap (λ first. before k ++ (first ∷ [])) (sym t.0))
+begin_good m n k item v begins.Nothing e = tt
+
+name_good : (m : ℕ) (head : Word) (name : List ℕ) (n : ℕ) (k : Stack) (item : Item) → is_head head ≡ true → Valid m n k → (o : Opening) → opening head item ≡ o
+    → GoodNext m (before k ++ (word head name ∷ [])) item (after_name head name n k item o)
+name_good m head name n k item h v opens.Arguments e =
+    let t : (item ≡ mark Open) × (takes_arguments head ≡ true) = at_opener head item e in
+    open_good m (before k ++ (word head name ∷ [])) item n (want (n - 1) (given head name [] n k)) (λ i. ((t.1, i, refl, tt, v), rw t.0 (simp append_assoc)))
+name_good m head name n k item h v opens.Nothing e = close_good k (leaf head name) item m n v h
+
+pub step_good : (m : ℕ) (mode : Mode) (item : Item) → Good m mode → GoodNext m (seen mode) item (step mode item)
+step_good m (want n k) item g = begin_good m n k item g (beginning item) refl
+step_good m (named head name n k) item g = name_good m head name n k item g.0 g.1 (opening head item) refl
+step_good m (have n w k) item g = close_good k w item m n g.1 g.0
+
+-- what holds of an answer to the tokens ts, after front; and the first token that is left decides it, whatever follows that
+abbrev pub Answers : ℕ → Mode → List Item → List Item → Out → Type 0
+Answers m mode front ts (found w rest) =
+    Fits m w × (taken : List Item) × (ts ≡ taken ++ rest) × (tokens w ≡ front ++ taken)
+    × ((item : Item) (behind other : List Item) → rest ≡ item ∷ behind → run mode (taken ++ (item ∷ other)) ≡ found w (item ∷ other))
+Answers m mode front ts (stopped rest) =
+    (taken : List Item) × (ts ≡ taken ++ rest) × Begins m (front ++ taken)
+    × ((item : Item) (behind other : List Item) → rest ≡ item ∷ behind → run mode (taken ++ (item ∷ other)) ≡ stopped (item ∷ other))
+
+finish_good : (m n : ℕ) (k : Stack) (w : Writing) (mode : Mode) → Valid m n k → Fits n w → Begins m (before k ++ tokens w) → Answers m mode (before k ++ tokens w) [] (finish k w)
+finish_good m n top w mode v f b = (move n m w v f, [], refl, sym (append-nil (tokens w)), λ item behind other i. cc)
+finish_good m n (given head name vs outer k) w mode v f b = ([], refl, rw append-nil b, λ item behind other i. cc)
+
+end_good : (m : ℕ) (mode : Mode) → Good m mode → Answers m mode (seen mode) [] (at_end mode)
+end_good m (want n k) g = ([], refl, rw append-nil (alive m (want n k) g), λ item behind other i. cc)
+end_good m (named head name n k) g = finish_good m n k (leaf head name) (named head name n k) g.1 g.0 (alive m (named head name n k) g)
+end_good m (have n w k) g = finish_good m n k w (have n w k) g.1 g.0 (alive m (have n w k) g)
+
+earlier_answer : (m : ℕ) (mode next : Mode) (item : Item) (rest : List Item) → step mode item ≡ go next → seen next ≡ seen mode ++ (item ∷ []) → (out : Out)
+    → Answers m next (seen next) rest out → Answers m mode (seen mode) (item ∷ rest) out
+earlier_answer m mode next item rest e i (found w left) a = (
+  a.0,
+  item ∷ a.1,
+  ap (λ l. item ∷ l) a.2,
+  a.3 ∙ (ap (λ l. l ++ a.1) i ∙ append_assoc (seen mode) (item ∷ []) a.1),
+  λ first behind other j. run_go mode item (a.1 ++ (first ∷ other)) next e ∙ a.4 first behind other j,
+)
+earlier_answer m mode next item rest e i (stopped left) a = (
+  item ∷ a.0,
+  ap (λ l. item ∷ l) a.1,
+  subst (Begins m) (ap (λ l. l ++ a.0) i ∙ append_assoc (seen mode) (item ∷ []) a.0) a.2,
+  λ first behind other j. run_go mode item (a.0 ++ (first ∷ other)) next e ∙ a.3 first behind other j,
+)
+
+abbrev onward : Next → Item → List Item → Out
+onward x item rest = elim x [ go next ↦ run next rest | done w ↦ found w (item ∷ rest) | stop ↦ stopped (item ∷ rest) ]
+
+run_next : (mode : Mode) (item : Item) (rest : List Item) (x : Next) → step mode item ≡ x → run mode (item ∷ rest) ≡ onward x item rest
+run_next mode item rest x e = rw (e, run) refl
+
+next_good : (rest : List Item) (m : ℕ) (mode : Mode) (item : Item) → ((next : Mode) → Good m next → Answers m next (seen next) rest (run next rest)) → (x : Next) → step mode item ≡ x → Good m mode
+    → GoodNext m (seen mode) item x → Answers m mode (seen mode) (item ∷ rest) (onward x item rest)
+next_good rest m mode item later (go next) e g h = earlier_answer m mode next item rest e h.1 (run next rest) (later next h.0)
+next_good rest m mode item later (done w) e g h = (
+  h.0,
+  [],
+  refl,
+  h.1 ∙ sym (append-nil (seen mode)),
+  λ first behind other j. let same : item ≡ first = cc in subst (λ (one : Item). run mode (one ∷ other) ≡ found w (one ∷ other)) same (run_next mode item other (done w) e),
+)
+next_good rest m mode item later stop e g h = (
+  [],
+  refl,
+  rw append-nil (alive m mode g),
+  λ first behind other j. let same : item ≡ first = cc in subst (λ (one : Item). run mode (one ∷ other) ≡ stopped (one ∷ other)) same (run_next mode item other stop e),
+)
+
+pub run_good : (ts : List Item) (m : ℕ) (mode : Mode) → Good m mode → Answers m mode (seen mode) ts (run mode ts)
+run_good [] m mode g = end_good m mode g
+run_good (item ∷ rest) m mode g = next_good rest m mode item (λ next h. run_good rest m next h) (step mode item) refl g (step_good m mode item g)
+
+-- a tree alone is wanted
+abbrev pub start : ℕ → Mode
+start m = want m top
+
+pub start_good : (m : ℕ) → Good m (start m)
+start_good m = refl
+
+-- behind a tree alone nothing more is read
+pub stays : (n : ℕ) (w : Writing) (rest : List Item) → run (have n w top) rest ≡ found w rest
+stays n w [] = refl
+stays n w (item ∷ rest) = run_next (have n w top) item rest (done w) refl
+
+-- whatever is written is read
+pub reads_it : (m : ℕ) (w : Writing) → Fits m w → run (start m) (tokens w) ≡ found w []
+reads_it m w f = sym (ap (run (start m)) (append-nil (tokens w))) ∙ reads w m top [] f tt
+
+-- no two writings have the same tokens
+pub no_two : (m : ℕ) (v w : Writing) → Fits m v → Fits m w → tokens v ≡ tokens w → v ≡ w
+no_two m v w f g e =
+    let a : run (start m) (tokens v) ≡ found v [] = reads_it m v f in
+    let b : run (start m) (tokens w) ≡ found w [] = reads_it m w g in
+    let c : run (start m) (tokens v) ≡ run (start m) (tokens w) = ap (run (start m)) e in
+    cc
+
+no_rest : (m : ℕ) (front : List Item) (item : Item) → ((other : List Item) (w : Writing) → run (start m) (front ++ (item ∷ other)) ≡ found w [] → ⊥) → Begins m (front ++ (item ∷ [])) → ⊥
+no_rest m front item h b = h b.1 b.0 (sym (ap (run (start m)) (b.3 ∙ append_assoc front (item ∷ []) b.1)) ∙ reads_it m b.0 b.2)
+
+refused : (m : ℕ) (ts front rest : List Item) → ts ≡ front ++ rest → Begins m front
+    → ((item : Item) (behind : List Item) → rest ≡ item ∷ behind → Begins m (front ++ (item ∷ [])) → ⊥) → (rest ≡ [] → (w : Writing) → IsTree m ts w → ⊥)
+    → Refused m ts (length ts - length rest)
+refused m ts front rest e b h u =
+    let le : length ts ≡ length front + length rest = ap length e ∙ length-append front rest in
+    let at : length ts - length rest ≡ length front = omega arith in
+    let same : take (length front) ts ≡ front = ap (take (length front)) e ∙ take_front front rest in
+    subst (Refused m ts) (sym at) (record {
+      within = omega arith;
+      begins = subst (Begins m) (sym same) b;
+      no_further = λ l. next rest e le l h;
+      unfinished = λ i. u (none rest (omega arith));
+    })
+  where
+    take_front : (xs ys : List Item) → take (length xs) (xs ++ ys) ≡ xs
+    take_front [] ys = refl
+    take_front (x ∷ xs) ys = ap (λ l. x ∷ l) (take_front xs ys)
+
+    none : (xs : List Item) → length xs ≡ 0 → xs ≡ []
+    none [] i = refl
+    none (x ∷ xs) i = absurd (omega arith)
+
+    next : (xs : List Item) → ts ≡ front ++ xs → length ts ≡ length front + length xs → length front < length ts
+        → ((item : Item) (behind : List Item) → xs ≡ item ∷ behind → Begins m (front ++ (item ∷ [])) → ⊥) → Begins m (take (length front + 1) ts) → ⊥
+    next [] f k l g c = absurd (omega arith)
+    next (item ∷ behind) f k l g c =
+        let more : (front ++ (item ∷ [])) ++ behind ≡ ts = append_assoc front (item ∷ []) behind ∙ sym f in
+        let long : length (front ++ (item ∷ [])) ≡ length front + 1 = length-append front (item ∷ []) in
+        let same : take (length front + 1) ts ≡ front ++ (item ∷ []) =
+        (ap (λ i. take i ts) (sym long) ∙ (ap (take (length (front ++ (item ∷ [])))) (sym more) ∙ take_front (front ++ (item ∷ [])) behind)) in
+        g item behind refl (subst (Begins m) same c)
+
+-- what an answer to a whole line of tokens says
+abbrev pub Outcome : ℕ → List Item → Out → Type 0
+Outcome m ts (found w []) = IsTree m ts w
+Outcome m ts (found w (item ∷ rest)) = Refused m ts (length ts - length (item ∷ rest))
+Outcome m ts (stopped rest) = Refused m ts (length ts - length rest)
+
+outcome : (m : ℕ) (ts : List Item) (out : Out) → run (start m) ts ≡ out → Answers m (start m) [] ts out → Outcome m ts out
+outcome m ts (found w []) e a = (a.0, a.3 ∙ (sym (append-nil a.1) ∙ sym a.2))
+outcome m ts (found w (item ∷ rest)) e a =
+    refused m ts (tokens w) (item ∷ rest) (a.2 ∙ ap (λ l. l ++ (item ∷ rest)) (sym a.3)) (w, [], a.0, sym (append-nil (tokens w)))
+    (λ first behind i b.
+    let same : first ≡ item = cc in
+    no_rest m (tokens w) first (λ other v j. let k : run (start m) (a.1 ++ (first ∷ other)) ≡ found w (first ∷ other) = a.4 first behind other i in let l : tokens w ≡ a.1 = a.3 in cc) b)
+    (λ i. cc)
+outcome m ts (stopped []) e a =
+    refused m ts a.0 [] a.1 a.2 (λ first behind i b. cc)
+    (λ i w t. let f : run (start m) ts ≡ found w [] = sym (ap (run (start m)) t.1) ∙ reads_it m w t.0 in cc)
+outcome m ts (stopped (item ∷ rest)) e a =
+    refused m ts a.0 (item ∷ rest) a.1 a.2
+    (λ first behind i b. no_rest m a.0 first (λ other v j. let k : run (start m) (a.0 ++ (first ∷ other)) ≡ stopped (first ∷ other) = a.3 first behind other i in cc) b)
+    (λ i. cc)
+
+-- reading says of each list of tokens whether it is a writing's, and else where it is refused
+pub reads_exactly : (m : ℕ) (ts : List Item) → Outcome m ts (run (start m) ts)
+reads_exactly m ts = outcome m ts (run (start m) ts) refl (run_good ts m (start m) (start_good m))
+
+pub reads_as : (m : ℕ) (ts : List Item) (out : Out) → run (start m) ts ≡ out → Outcome m ts out
+reads_as m ts out e = subst (Outcome m ts) e (reads_exactly m ts)
