@@ -1,0 +1,6 @@
+pub mod Circles
+pub mod Derivations
+pub mod Members
+pub mod Names
+pub mod Passes
+pub mod Walks

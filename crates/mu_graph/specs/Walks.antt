@@ -1,0 +1,19 @@
+-- What is reachable from a list of keys, and the walk that finds it.
+use Rattle.std.specs.Prelude.{◌≡◌, ◌⊎◌, ◌+◌, ℕ, suc, Bool, true, List, [], ◌∷◌, length, cond}
+use Rattle.mu_graph.specs.Derivations.{Stands}
+use Rattle.mu_graph.specs.Circles.{LeadsTo}
+
+-- n is one of the starts, or one of them leads to it
+abbrev pub IsLedTo : {N : Type 0} → (N → List N) → List N → N → Type 0
+IsLedTo {N} leads starts n = Stands n starts ⊎ ((a : N) × Stands a starts × LeadsTo leads a n)
+
+-- a walk from the starts that has marked some keys and has the list `work` still to look at
+pub record Walked {N : Type 0} (leads : N → List N) (starts : List N) (marked : N → Bool) (work : List N) : Type 0 where
+  pub sound : (n : N) → (marked n ≡ true) ⊎ Stands n work → IsLedTo leads starts n
+  pub begun : (n : N) → Stands n starts → (marked n ≡ true) ⊎ Stands n work
+  pub closed : (n m : N) → marked n ≡ true → Stands m (leads n) → (marked m ≡ true) ⊎ Stands m work
+
+-- how many members and edges of the list are not marked yet
+abbrev pub unmarked : {N : Type 0} → (N → List N) → (N → Bool) → List N → ℕ
+unmarked leads marked [] = 0
+unmarked leads marked (n ∷ ns) = cond (marked n) 0 (suc (length (leads n))) + unmarked leads marked ns
