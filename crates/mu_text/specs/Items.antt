@@ -1,5 +1,5 @@
 -- The tokens of a line as the grammar takes them.
-use Rattle.std.specs.Prelude.{◌≡◌, ℕ, ◌-◌, Bool, if◌then◌else◌, ◌==◌, List, [], ◌∷◌, length, drop, slice_index, map, Option, Some, None, count_by, codes}
+use Rattle.std.specs.Prelude.{ℕ, ◌-◌, if◌then◌else◌, ◌==◌, List, [], ◌∷◌, length, drop, slice_index, map, Option, Some, None, count_by, codes}
 use Rattle.std.specs.Bool.{nat_eq}
 use Rattle.std.specs.Cmp.Lexicographic.{pointwise}
 use Rattle.mu_text.specs.Reading.{text_of}
