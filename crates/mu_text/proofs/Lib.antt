@@ -1,12 +1,22 @@
-mod Fronts
-mod Longest
-mod Runs
-mod Skips
+pub mod Choice
 pub mod Complete
+mod Digits
 pub mod Ends
+pub mod Exact
 pub mod Facts
+mod Fronts
+pub mod Groups
 pub mod Kept
+pub mod Lists
+mod Longest
+pub mod Marks
 pub mod Measures
 pub mod Only
+pub mod Rows
+mod Runs
+pub mod Simple
+mod Skips
 pub mod Steps
+pub mod Turns
 pub mod Viable
+pub mod Whole

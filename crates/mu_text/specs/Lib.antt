@@ -1,6 +1,11 @@
+pub mod Groups
 pub mod Items
 pub mod Machine
-pub mod Tokens
+pub mod Marks
+pub mod Parts
 pub mod Reading
 pub mod Reads
+pub mod Rows
+pub mod SimpleParts
+pub mod Tokens
 pub mod Writings

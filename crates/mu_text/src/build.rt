@@ -1,13 +1,11 @@
-ghost use Rattle.std.specs.Prelude.{◌≡◌, ◌≤◌, ◌+◌, [], ◌∷◌, ◌++◌, IfOk, IfErr, IsTrue, ◌↔◌};
-ghost use Rattle.mu_tree.specs.Names.{IsName};
+ghost use Rattle.std.specs.Prelude.{◌≡◌, ◌≤◌, ◌+◌, [], ◌∷◌, ◌++◌, IfOk, IsTrue, ◌↔◌};
 ghost use Rattle.mu_text.specs.Writings.{made as made_of};
 ghost use Rattle.mu_text.specs.Reads.{capped, Built, Added};
-ghost use Rattle.mu_text.specs.declared.fault.Fault.TheVariants.{NoMemory};
 
 use crate::fault::Fault;
 use crate::operand::{Operand, Several};
 use crate::symbol::Word;
-use mu_tree::{Name, NameFault, Tree, Trees};
+use mu_tree::{Name, Tree, Trees};
 use std::alloc::{AllocError, Global};
 
 /// The most nodes of a tree that is built.
@@ -18,22 +16,6 @@ const MOST_DEPTH: u64 = 200;
 
 /// Where counts stop.
 const MOST_COUNTED: u64 = 5_000;
-
-/// A name of these bytes, if they are one that can be kept; else some name stands for them.
-///
-/// # Errors
-///
-/// `NoMemory`, at any bytes.
-pub fn kept_name(alloc: Global, text: &[u8]) -> Result<Name, Fault>
-    ensures kept { IfOk result (λ name. IsName text.now → name ≡ text.now) }
-    ensures fault { IfErr result (λ fault. fault ≡ NoMemory) }
-{
-    match Name::read(alloc, text) {
-        Ok(name) => Ok(name),
-        Err(NameFault::NoMemory) => Err(Fault::NoMemory),
-        Err(_) => Ok(Name::placeholder(alloc)?),
-    }
-}
 
 fn sum(a: u64, b: u64) -> u64
     ensures { result ≡ capped (a + b) }

@@ -3,9 +3,10 @@ ghost use Rattle.mu_tree.specs.Names.{IsName};
 ghost use Rattle.mu_text.specs.Reads.{ReadsTree, ReadsNamed, ReadsArguments};
 ghost use Rattle.mu_text.specs.declared.symbol.Word.{Word};
 
-use crate::build::{added, applied, kept_name, leaf, none};
+use crate::build::{added, applied, leaf, none};
 use crate::fault::Fault;
 use crate::operand::{Operand, Several};
+use crate::parts::kept_name;
 use crate::reader::Reader;
 use crate::symbol::Word;
 use crate::way::{Beginning, Ending, Opening};

@@ -1,10 +1,10 @@
 use mu_tree::NoMemory;
 use std::alloc::AllocError;
 
-/// Why reading did not go on.
+/// Why no part was read.
 #[derive(Clone, Copy, Debug, PartialEq, Eq)]
 pub enum Fault {
-    /// Nothing that is read here goes on with the first token that is left, or with the end of the tokens.
+    /// No spelling goes on with the first token that is not read, or there is no such token.
     Stop,
     /// Memory ran out.
     NoMemory,

@@ -1,17 +1,17 @@
-//! The tokens of a line, with their sorts and their places, and the trees that are read from them.
+//! The tokens of a line, with their sorts and their places, and the parts and trees that they spell.
 #![tactic(auto)]
 
 mod build;
 mod descent;
 mod fault;
 mod operand;
+pub mod parts;
 mod reader;
 mod symbol;
 mod token;
 mod tokens;
 mod way;
 
-pub use build::kept_name;
 pub use descent::MOST_NESTING;
 pub use fault::Fault;
 pub use operand::Operand;

@@ -6,7 +6,8 @@ mod lexer;
 
 use crate::token::Token;
 pub use lexer::is_blank;
-use lexer::{after, first_token, split};
+pub(crate) use lexer::{MOST_DIGITS, split, starts_positive};
+use lexer::{after, first_token};
 use mu_tree::NoMemory;
 use std::alloc::{AllocError, Global};
 use std::marker::Model;

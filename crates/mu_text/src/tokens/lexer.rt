@@ -11,7 +11,7 @@ use mu_tree::{is_letter, is_name_byte};
 const MOST_DOTS: usize = 2;
 
 /// The most digits that a place has.
-const MOST_DIGITS: usize = 9;
+pub(crate) const MOST_DIGITS: usize = 9;
 
 /// Whether the byte is a blank, which may stand between tokens: a space, a tab or a carriage return.
 pub fn is_blank(byte: u8) -> bool
@@ -67,7 +67,7 @@ fn starts_letter(text: &[u8]) -> bool
     }
 }
 
-fn starts_positive(text: &[u8]) -> bool
+pub(crate) fn starts_positive(text: &[u8]) -> bool
     ensures { result ≡ positive_first text.now }
 {
     match text {

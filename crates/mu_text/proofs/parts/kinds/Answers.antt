@@ -1,0 +1,14 @@
+use Rattle.mu_text.specs.SimpleParts.{read_kinds}
+use Rattle.mu_text.proofs.Simple.{Exact-kind}
+use Rattle.mu_text.proofs.Turns.{fewer, finish, finish_same, turn}
+use Rattle.mu_text.proofs.parts.kinds.Goals as goal
+
+pub loop-reader-preserved : goal.loop-reader-preserved
+loop-reader-preserved c = turn Exact-kind c.loop-reader.invariant c.sees.ensures c.loop-reader-test.true c.skip.ensures c.in_ok-next.ensures c.in_ok-push-2.ensures.ok
+
+pub loop-reader-smaller : goal.loop-reader-smaller
+loop-reader-smaller c = fewer Exact-kind c.loop-reader.invariant c.sees.ensures c.loop-reader-test.true c.skip.ensures c.in_ok-next.ensures
+
+pub returns : goal.returns
+unfolding read_kinds
+returns c = finish_same (finish Exact-kind c.loop-reader.invariant c.sees.ensures c.loop-reader-test.false)

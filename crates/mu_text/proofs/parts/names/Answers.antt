@@ -1,0 +1,12 @@
+use Rattle.mu_text.proofs.Simple.{Exact-plain_name}
+use Rattle.mu_text.proofs.Turns.{fewer, start, turn}
+use Rattle.mu_text.proofs.parts.names.Goals as goal
+
+pub loop-alloc-init : goal.loop-alloc-init
+loop-alloc-init c = start Exact-plain_name c.in_ok-first.ensures c.new-names.ensures c.in_ok-push.ensures.ok
+
+pub loop-alloc-preserved : goal.loop-alloc-preserved
+loop-alloc-preserved c = turn Exact-plain_name c.loop-alloc.invariant c.sees.ensures c.loop-alloc-test.true c.skip.ensures c.in_ok-next.ensures c.in_ok-push-2.ensures.ok
+
+pub loop-alloc-smaller : goal.loop-alloc-smaller
+loop-alloc-smaller c = fewer Exact-plain_name c.loop-alloc.invariant c.sees.ensures c.loop-alloc-test.true c.skip.ensures c.in_ok-next.ensures

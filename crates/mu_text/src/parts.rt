@@ -1,0 +1,407 @@
+//! The parts of a line that are one token, and lists of them: each is read where it is spelled, and stops at the
+//! first token with which no spelling goes on.
+
+ghost use Rattle.std.specs.Prelude.{◌≡◌, ◌↔◌, IsTrue, true, Some, None, IfOk, IfErr, MatchOption};
+ghost use Rattle.mu_tree.specs.Names.{is_digit as digit_test};
+ghost use Rattle.std.specs.List.{list_all};
+ghost use Rattle.mu_text.specs.declared.fault.Fault.TheVariants as fault;
+ghost use Rattle.mu_text.specs.Groups.{read_argument_kinds};
+ghost use Rattle.mu_text.specs.Marks.{is_mark};
+ghost use Rattle.mu_text.specs.Parts.{Gives, Same, StandsEach, at_end, first_as, starts};
+ghost use Rattle.mu_text.specs.SimpleParts.{StandsName, is_number as number_test, is_word as word_test, name_of, number_from, number_of, place_of, plain_name_of, read_kind, read_kinds, read_mark, read_meta, read_name, read_names, read_place, read_plain_name, read_word};
+
+use crate::fault::Fault;
+use crate::reader::Reader;
+use crate::symbol::{Mark, Sort, Word};
+use crate::tokens::{MOST_DIGITS, split, starts_positive};
+use mu_tree::{Kind, Kinds, Name, NameFault, Names};
+use std::alloc::Global;
+
+/// A name with these bytes; where they are past the limit of a name, some other name stands in its place.
+///
+/// # Errors
+///
+/// `NoMemory`.
+pub fn kept_name(alloc: Global, text: &[u8]) -> Result<Name, Fault>
+    ensures kept { IfOk result (λ name. StandsName text.now name) }
+    ensures fault { IfErr result (λ error. error ≡ fault.NoMemory) }
+{
+    match Name::read(alloc, text) {
+        Ok(name) => Ok(name),
+        Err(NameFault::NoMemory) => Err(Fault::NoMemory),
+        Err(_) => Ok(Name::placeholder(alloc)?),
+    }
+}
+
+/// Whether the first token is the given mark.
+pub fn sees(reader: &Reader, mark: Mark) -> bool
+    ensures { result ≡ starts (is_mark mark) reader.now }
+{
+    is_sort(reader.peek(), mark)
+}
+
+fn is_sort(sort: Option<Sort>, mark: Mark) -> bool
+    ensures { IsTrue result ↔ (sort ≡ Some (Sort.Mark mark)) }
+{
+    sort == Some(Sort::Mark(mark))
+}
+
+/// Whether the first token is the name with these bytes.
+pub fn sees_word(reader: &Reader, text: &[u8]) -> bool
+    ensures { result ≡ starts (word_test text.now) reader.now }
+{
+    match name_bytes(reader) {
+        Some(name) => name == text,
+        None => false,
+    }
+}
+
+fn plain_name_bytes<'a>(reader: &'a Reader) -> Option<&'a [u8]>
+    ensures { MatchOption result (first_as plain_name_of reader.now ≡ None) (λ name. first_as plain_name_of reader.now ≡ Some name.now) }
+{
+    match reader.peek() {
+        Some(Sort::Word(Word::Plain)) => Some(reader.bytes()),
+        Some(Sort::Word(Word::True)) => Some(reader.bytes()),
+        Some(Sort::Mark(Mark::And)) => Some(b"and"),
+        Some(Sort::Mark(Mark::Or)) => Some(b"or"),
+        Some(Sort::Mark(Mark::Not)) => Some(b"not"),
+        _ => None,
+    }
+}
+
+fn name_bytes<'a>(reader: &'a Reader) -> Option<&'a [u8]>
+    ensures { MatchOption result (first_as name_of reader.now ≡ None) (λ name. first_as name_of reader.now ≡ Some name.now) }
+{
+    match reader.peek() {
+        Some(Sort::Word(Word::Dotted)) => Some(reader.bytes()),
+        _ => plain_name_bytes(reader),
+    }
+}
+
+/// Reads a name of one segment, as a label is.
+///
+/// # Errors
+///
+/// `Stop` where the first token is no such name; then no token is passed over. `NoMemory`.
+#[tactic(auto, unfolding(crate::specs::SimpleParts::read_plain_name))]
+pub fn plain_name(alloc: Global, reader: &mut Reader) -> Result<Name, Fault>
+    ensures { Gives StandsName (read_plain_name reader.old) result reader.new }
+{
+    match plain_name_bytes(reader) {
+        Some(text) => {
+            let name = kept_name(alloc, text)?;
+            reader.skip();
+            Ok(name)
+        }
+        None => Err(Fault::Stop),
+    }
+}
+
+/// Reads a name.
+///
+/// # Errors
+///
+/// `Stop` where the first token is no name; then no token is passed over. `NoMemory`.
+#[tactic(auto, unfolding(crate::specs::SimpleParts::read_name))]
+pub fn name(alloc: Global, reader: &mut Reader) -> Result<Name, Fault>
+    ensures { Gives StandsName (read_name reader.old) result reader.new }
+{
+    match name_bytes(reader) {
+        Some(text) => {
+            let name = kept_name(alloc, text)?;
+            reader.skip();
+            Ok(name)
+        }
+        None => Err(Fault::Stop),
+    }
+}
+
+/// Reads a metavariable, as the name that follows its first byte.
+///
+/// # Errors
+///
+/// `Stop` where the first token is no metavariable; then no token is passed over. `NoMemory`.
+#[tactic(auto, unfolding(crate::specs::SimpleParts::read_meta))]
+pub fn meta(alloc: Global, reader: &mut Reader) -> Result<Name, Fault>
+    ensures { Gives StandsName (read_meta reader.old) result reader.new }
+{
+    match reader.peek() {
+        Some(Sort::Word(Word::Meta)) => {
+            let name = kept_name(alloc, reader.bytes())?;
+            reader.skip();
+            Ok(name)
+        }
+        _ => Err(Fault::Stop),
+    }
+}
+
+/// Reads a place, as its number.
+///
+/// # Errors
+///
+/// `Stop` where the first token is no place; then no token is passed over.
+#[tactic(auto, unfolding(crate::specs::SimpleParts::read_place))]
+pub fn place(reader: &mut Reader) -> Result<u32, Fault>
+    ensures { Gives Same (read_place reader.old) result reader.new }
+{
+    match place_number(reader) {
+        Some(number) => {
+            reader.skip();
+            Ok(number)
+        }
+        None => Err(Fault::Stop),
+    }
+}
+
+fn place_number(reader: &Reader) -> Option<u32>
+    ensures { result ≡ first_as place_of reader.now }
+{
+    match reader.peek() {
+        Some(Sort::Word(Word::Place)) => number(reader.bytes()),
+        _ => None,
+    }
+}
+
+/// The number that one to nine digits spell.
+fn number(text: &[u8]) -> Option<u32>
+    ensures { result ≡ number_of text.now }
+{
+    if !is_number(text) {
+        return None;
+    }
+    Some(digits_value(text))
+}
+
+fn is_number(text: &[u8]) -> bool
+    ensures { result ≡ number_test text.now }
+{
+    starts_positive(text) && are_digits(text) && text.len() <= MOST_DIGITS
+}
+
+fn are_digits(text: &[u8]) -> bool
+    ensures { result ≡ list_all digit_test text.now }
+{
+    text.iter().all(|byte| byte.is_ascii_digit())
+}
+
+fn digits_value(text: &[u8]) -> u32
+    requires { number_test text.now ≡ true }
+    ensures { result ≡ number_from 0 text.now }
+{
+    let mut value = 0;
+    let mut rest = text;
+    while let Some((digit, tail)) = split(rest) {
+        value = value * 10 + u32::from(digit - b'0');
+        rest = tail;
+    }
+    value
+}
+
+/// Passes over the given word: a name with these bytes.
+///
+/// # Errors
+///
+/// `Stop` where the first token is another; then no token is passed over.
+#[tactic(auto, unfolding(crate::specs::SimpleParts::read_word))]
+pub fn word(reader: &mut Reader, text: &[u8]) -> Result<(), Fault>
+    ensures { Gives Same (read_word text.now reader.old) result reader.new }
+{
+    if !sees_word(reader, text) {
+        return Err(Fault::Stop);
+    }
+    reader.skip();
+    Ok(())
+}
+
+/// Passes over the given mark.
+///
+/// # Errors
+///
+/// `Stop` where the first token is another; then no token is passed over.
+#[tactic(auto, unfolding(crate::specs::SimpleParts::read_mark))]
+pub fn mark(reader: &mut Reader, mark: Mark) -> Result<(), Fault>
+    ensures { Gives Same (read_mark mark reader.old) result reader.new }
+{
+    if !sees(reader, mark) {
+        return Err(Fault::Stop);
+    }
+    reader.skip();
+    Ok(())
+}
+
+/// Reads a kind.
+///
+/// # Errors
+///
+/// `Stop` where the first token is no kind; then no token is passed over.
+#[tactic(auto, unfolding(crate::specs::SimpleParts::read_kind))]
+pub fn kind(reader: &mut Reader) -> Result<Kind, Fault>
+    ensures { Gives Same (read_kind reader.old) result reader.new }
+{
+    if !sees_word(reader, b"e") {
+        return Err(Fault::Stop);
+    }
+    reader.skip();
+    Ok(Kind::E)
+}
+
+/// Passes over the end of the line.
+///
+/// # Errors
+///
+/// `Stop` where a token is left.
+pub fn end(reader: &mut Reader) -> Result<(), Fault>
+    ensures { Gives Same (at_end reader.old) result reader.new }
+{
+    match reader.peek() {
+        None => Ok(()),
+        Some(_) => Err(Fault::Stop),
+    }
+}
+
+/// Reads kinds between commas, at least one.
+///
+/// # Errors
+///
+/// `Stop` at the first token with which no such list goes on. `NoMemory`.
+#[tactic(auto, unfolding(crate::specs::SimpleParts::read_kinds))]
+pub fn kinds(alloc: Global, reader: &mut Reader) -> Result<Kinds, Fault>
+    ensures { Gives Same (read_kinds reader.old) result reader.new }
+{
+    let mut kinds = Kinds::new(alloc);
+    let first = kind(reader)?;
+    kinds.push(first)?;
+    while sees(reader, Mark::Comma) {
+        reader.skip();
+        let next = kind(reader)?;
+        kinds.push(next)?;
+    }
+    Ok(kinds)
+}
+
+/// Reads names of one segment between commas, at least one.
+///
+/// # Errors
+///
+/// `Stop` at the first token with which no such list goes on. `NoMemory`.
+#[tactic(auto, unfolding(crate::specs::SimpleParts::read_names))]
+pub fn names(alloc: Global, reader: &mut Reader) -> Result<Names, Fault>
+    ensures { Gives (StandsEach StandsName) (read_names reader.old) result reader.new }
+{
+    let mut names = Names::new(alloc);
+    let first = plain_name(alloc, reader)?;
+    names.push(first)?;
+    while sees(reader, Mark::Comma) {
+        reader.skip();
+        let next = plain_name(alloc, reader)?;
+        names.push(next)?;
+    }
+    Ok(names)
+}
+
+/// Reads the kinds of a constant's arguments: between commas, in parentheses. Where there are none, no token is read.
+///
+/// # Errors
+///
+/// `Stop` at the first token with which no such part goes on. `NoMemory`.
+#[tactic(auto, unfolding(crate::specs::Groups::read_argument_kinds))]
+pub fn argument_kinds(alloc: Global, reader: &mut Reader) -> Result<Kinds, Fault>
+    ensures { Gives Same (read_argument_kinds reader.old) result reader.new }
+{
+    if !sees(reader, Mark::Open) {
+        return Ok(Kinds::new(alloc));
+    }
+    mark(reader, Mark::Open)?;
+    let read = kinds(alloc, reader)?;
+    mark(reader, Mark::Close)?;
+    Ok(read)
+}
+
+#[cfg(test)]
+mod tests {
+    use super::*;
+    use crate::tokens::Tokens;
+    use std::test::Fail;
+
+    #[test]
+    fn reads_each_part(rt: HostRuntime) -> Result<(), Fail> {
+        let alloc = rt.alloc();
+        let line = b"const and a.b.c not ?x1 #120 -> e";
+        let tokens = Tokens::read(alloc, line)?;
+        let mut reader = Reader::new(line, tokens.items());
+        assert!(rt; sees_word(&reader, b"const"));
+        assert!(rt; word(&mut reader, b"const").is_ok());
+        assert!(rt; plain_name(alloc, &mut reader)?.bytes() == b"and".as_slice());
+        assert!(rt; name(alloc, &mut reader)?.bytes() == b"a.b.c".as_slice());
+        assert!(rt; name(alloc, &mut reader)?.bytes() == b"not".as_slice());
+        assert!(rt; meta(alloc, &mut reader)?.bytes() == b"x1".as_slice());
+        assert!(rt; place(&mut reader) == Ok(120));
+        assert!(rt; sees(&reader, Mark::Arrow));
+        assert!(rt; mark(&mut reader, Mark::Arrow).is_ok());
+        assert!(rt; end(&mut reader) == Err(Fault::Stop));
+        assert!(rt; kind(&mut reader) == Ok(Kind::E));
+        assert!(rt; end(&mut reader).is_ok());
+        Ok(())
+    }
+
+    #[test]
+    fn stops_before_other_tokens(rt: HostRuntime) -> Result<(), Fail> {
+        let alloc = rt.alloc();
+        let line = b"a.b t 7";
+        let tokens = Tokens::read(alloc, line)?;
+        let mut reader = Reader::new(line, tokens.items());
+        assert!(rt; plain_name(alloc, &mut reader) == Err(Fault::Stop));
+        assert!(rt; meta(alloc, &mut reader) == Err(Fault::Stop));
+        assert!(rt; place(&mut reader) == Err(Fault::Stop));
+        assert!(rt; word(&mut reader, b"a.bc") == Err(Fault::Stop));
+        assert!(rt; mark(&mut reader, Mark::Dot) == Err(Fault::Stop));
+        assert!(rt; reader.len() == 3);
+        reader.skip();
+        assert!(rt; kind(&mut reader) == Err(Fault::Stop));
+        reader.skip();
+        assert!(rt; name(alloc, &mut reader) == Err(Fault::Stop));
+        Ok(())
+    }
+
+    #[test]
+    fn reads_lists(rt: HostRuntime) -> Result<(), Fail> {
+        let alloc = rt.alloc();
+        let lines: [(&[u8], Option<usize>, usize); 6] = [
+            (b"-> e", Some(0), 2),
+            (b"(e) -> e", Some(1), 2),
+            (b"(e, e ,e)", Some(3), 0),
+            (b"(e,) -> e", None, 3),
+            (b"()", None, 1),
+            (b"(e", None, 0),
+        ];
+        for (line, wanted, left) in lines.iter() {
+            let tokens = Tokens::read(alloc, line)?;
+            let mut reader = Reader::new(line, tokens.items());
+            let read = argument_kinds(alloc, &mut reader)
+                .ok()
+                .map(|kinds| kinds.len());
+            assert!(rt; read == *wanted);
+            assert!(rt; reader.len() == *left);
+        }
+        let line = b"x, true,y z";
+        let tokens = Tokens::read(alloc, line)?;
+        let mut reader = Reader::new(line, tokens.items());
+        let read = names(alloc, &mut reader)?;
+        assert!(rt; read.len() == 3);
+        assert!(rt; read.items()[1].bytes() == b"true".as_slice());
+        assert!(rt; reader.len() == 1);
+        Ok(())
+    }
+
+    #[test]
+    fn keeps_no_long_name(rt: HostRuntime) -> Result<(), Fail> {
+        let alloc = rt.alloc();
+        let line = [b'a'; 65];
+        let tokens = Tokens::read(alloc, &line)?;
+        let mut reader = Reader::new(&line, tokens.items());
+        let read = name(alloc, &mut reader)?;
+        assert!(rt; read.bytes().len() <= 64);
+        assert!(rt; reader.len() == 0);
+        Ok(())
+    }
+}
