@@ -89,8 +89,7 @@ impl Name {
     /// # Errors
     ///
     /// `NoMemory`.
-    pub fn placeholder(alloc: Global) -> Result<Name, NoMemory>
-    {
+    pub fn placeholder(alloc: Global) -> Result<Name, NoMemory> {
         let bytes = Vec::from_slice(alloc, b"x")?;
         Ok(Name { bytes })
     }
