@@ -1,0 +1,14 @@
+pub mod Capture
+pub mod Closing
+pub mod EnteredClosed
+pub mod EnteredOpened
+pub mod EnteringEquations
+pub mod FormingEquations
+pub mod Induction
+pub mod OpeningEquations
+pub mod Places
+pub mod Renaming
+pub mod Rests
+pub mod TreeInduction
+pub mod Untouched
+pub mod Variables

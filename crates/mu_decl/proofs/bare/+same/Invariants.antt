@@ -1,0 +1,5 @@
+use Rattle.std.proofs.Common.{◌≡◌, take}
+use Rattle.mu_decl.proofs.bare.+same.Given as goal
+
+abbrev pub invariant-same_all-loop-i : goal.invariant-same_all-loop-i
+invariant-same_all-loop-i l = take l.i l.left ≡ take l.i l.right

@@ -1,0 +1,6 @@
+use Rattle.std.proofs.Common.{◌≡◌, take, map}
+use Rattle.mu_decl.specs.Instantiated.{instantiated}
+use Rattle.mu_decl.proofs.instantiating.+replaced.Given as goal
+
+abbrev pub invariant-replaced_all-loop-tree : goal.invariant-replaced_all-loop-tree
+invariant-replaced_all-loop-tree l = l.all ≡ map (instantiated l.given) (take l.tree-index l.trees)

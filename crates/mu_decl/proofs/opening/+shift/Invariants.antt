@@ -1,0 +1,6 @@
+use Rattle.std.proofs.Common.{◌≡◌, take, map}
+use Rattle.mu_decl.specs.Opened.{shift_under}
+use Rattle.mu_decl.proofs.opening.+shift.Given as goal
+
+abbrev pub invariant-shift_all-loop-tree : goal.invariant-shift_all-loop-tree
+invariant-shift_all-loop-tree l = l.all ≡ map (shift_under l.by l.depth) (take l.tree-index l.trees)

@@ -1,0 +1,137 @@
+ghost use Rattle.std.specs.Prelude.{◌≡◌, ◌+◌, IfOk, map, reverse, slice_get};
+ghost use Rattle.std.specs.Option.{option_copied};
+ghost use Rattle.mu_decl.specs.Opened.{shift_under, opened, open_under, opened_index};
+ghost use Rattle.mu_decl.specs.Laws.{OpeningEnters, ShiftedIsUntouched};
+
+use crate::bare::{Bare, Bares};
+use mu_tree::NoMemory;
+use sqlite_items::{Boxed, Items};
+use std::alloc::Global;
+
+fn added(left: u64, right: u64) -> Result<u64, NoMemory>
+    ensures { IfOk result (λ sum. sum ≡ left + right) }
+{
+    left.checked_add(right).ok_or(NoMemory)
+}
+
+// The loose indices raised by `by`, of a tree under `depth` binders.
+#[cycle(shift)]
+#[tactic(auto, using(crate::proofs::OpeningEquations::shift_equations))]
+fn shift_under(alloc: Global, tree: &Bare, by: u64, depth: u64) -> Result<Bare, NoMemory>
+    ensures { IfOk result (λ shifted. shifted ≡ shift_under by depth tree.now) }
+{
+    match tree {
+        Bare::Var(name) => Ok(Bare::Var(name.copy(alloc)?)),
+        Bare::Index(index) => {
+            if *index < depth {
+                Ok(Bare::Index(*index))
+            } else {
+                Ok(Bare::Index(added(*index, by)?))
+            }
+        }
+        Bare::App(name, arguments) => {
+            let name = name.copy(alloc)?;
+            let arguments = shift_all(alloc, arguments.as_slice(), by, depth)?;
+            Ok(Bare::App(name, arguments))
+        }
+        Bare::Meta(name, arguments) => {
+            let name = name.copy(alloc)?;
+            let arguments = shift_all(alloc, arguments.as_slice(), by, depth)?;
+            Ok(Bare::Meta(name, arguments))
+        }
+        Bare::Bind(binder, domain, body) => {
+            let binder = binder.copy(alloc)?;
+            let domain = shift_under(alloc, domain.get(), by, depth)?;
+            let body = shift_under(alloc, body.get(), by, added(depth, 1)?)?;
+            Ok(Bare::Bind(binder, Boxed::new(alloc, domain)?, Boxed::new(alloc, body)?))
+        }
+    }
+}
+
+#[cycle(shift)]
+fn shift_all(alloc: Global, trees: &[Bare], by: u64, depth: u64) -> Result<Bares, NoMemory>
+    ensures { IfOk result (λ all. all ≡ map (shift_under by depth) trees.now) }
+{
+    let mut all = Items::new(alloc);
+    for tree in trees {
+        all.push(shift_under(alloc, tree, by, depth)?)?;
+    }
+    Ok(all)
+}
+
+/// The tree with its innermost loose indices replaced by the trees `by`, the last of them for the innermost, and the
+/// other loose indices lowered by as many.
+///
+/// Each replacement is shifted past the binders that it is put under, and the clause `untouched` says what that is
+/// for: whatever these binders' variables become later, it stays as it was. The clause `closing` says that opening
+/// undoes closing: a tree that was entered under bound names, opened by the variables of these names, is the tree
+/// entered with the names in scope.
+///
+/// # Errors
+///
+/// `NoMemory` may come at any tree, and comes where an index would pass `u64::MAX`.
+#[tactic(auto, using(crate::proofs::EnteredOpened::opening_enters, crate::proofs::Untouched::shifted_is_untouched))]
+pub fn opened(alloc: Global, tree: &Bare, by: &Bares) -> Result<Bare, NoMemory>
+    ensures value { IfOk result (λ bare. bare ≡ opened by.now tree.now) }
+    ensures closing { OpeningEnters }
+    ensures untouched { ShiftedIsUntouched }
+{
+    open_under(alloc, tree, by, 0)
+}
+
+#[cycle(open)]
+#[tactic(auto, using(crate::proofs::OpeningEquations::open_equations))]
+fn open_under(alloc: Global, tree: &Bare, by: &Bares, depth: u64) -> Result<Bare, NoMemory>
+    ensures { IfOk result (λ bare. bare ≡ open_under by.now depth tree.now) }
+{
+    match tree {
+        Bare::Var(name) => Ok(Bare::Var(name.copy(alloc)?)),
+        Bare::Index(index) => open_index(alloc, *index, by, depth),
+        Bare::App(name, arguments) => {
+            let name = name.copy(alloc)?;
+            let arguments = open_all(alloc, arguments.as_slice(), by, depth)?;
+            Ok(Bare::App(name, arguments))
+        }
+        Bare::Meta(name, arguments) => {
+            let name = name.copy(alloc)?;
+            let arguments = open_all(alloc, arguments.as_slice(), by, depth)?;
+            Ok(Bare::Meta(name, arguments))
+        }
+        Bare::Bind(binder, domain, body) => {
+            let binder = binder.copy(alloc)?;
+            let domain = open_under(alloc, domain.get(), by, depth)?;
+            let body = open_under(alloc, body.get(), by, added(depth, 1)?)?;
+            Ok(Bare::Bind(binder, Boxed::new(alloc, domain)?, Boxed::new(alloc, body)?))
+        }
+    }
+}
+
+#[cycle(open)]
+fn open_all(alloc: Global, trees: &[Bare], by: &Bares, depth: u64) -> Result<Bares, NoMemory>
+    ensures { IfOk result (λ all. all ≡ map (open_under by.now depth) trees.now) }
+{
+    let mut all = Items::new(alloc);
+    for tree in trees {
+        all.push(open_under(alloc, tree, by, depth)?)?;
+    }
+    Ok(all)
+}
+
+fn open_index(alloc: Global, index: u64, by: &Bares, depth: u64) -> Result<Bare, NoMemory>
+    ensures { IfOk result (λ bare. bare ≡ opened_index by.now depth index) }
+{
+    if index < depth {
+        return Ok(Bare::Index(index));
+    }
+    match replacement(by.as_slice(), (index - depth) as usize) {
+        Some(tree) => shift_under(alloc, tree, depth, 0),
+        None => Ok(Bare::Index(index - by.len() as u64)),
+    }
+}
+
+// The tree that stands for the loose index `at`, the last one for 0.
+fn replacement(by: &[Bare], at: usize) -> Option<&Bare>
+    ensures { option_copied result ≡ slice_get (reverse by.now) at }
+{
+    by.iter().rev().nth(at)
+}
