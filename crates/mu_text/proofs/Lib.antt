@@ -1,7 +1,6 @@
 pub mod Choice
 pub mod Complete
 mod Digits
-pub mod Ends
 pub mod Exact
 pub mod Facts
 mod Fronts
@@ -17,6 +16,7 @@ mod Runs
 pub mod Simple
 mod Skips
 pub mod Steps
+pub mod Trees
 pub mod Turns
 pub mod Viable
 pub mod Whole

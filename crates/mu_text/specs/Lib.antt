@@ -8,4 +8,5 @@ pub mod Reads
 pub mod Rows
 pub mod SimpleParts
 pub mod Tokens
+pub mod Trees
 pub mod Writings

@@ -10,6 +10,10 @@ ghost use Rattle.mu_text.specs.Marks.{is_mark};
 ghost use Rattle.mu_text.specs.Parts.{Gives, Same, StandsEach, at_end, first_as, starts};
 ghost use Rattle.mu_text.specs.SimpleParts.{StandsName, is_number as number_test, is_word as word_test, name_of, number_from, number_of, place_of, plain_name_of, read_kind, read_kinds, read_mark, read_meta, read_name, read_names, read_place, read_plain_name, read_word};
 
+mod trees;
+
+pub use trees::tree;
+
 use crate::fault::Fault;
 use crate::reader::Reader;
 use crate::symbol::{Mark, Sort, Word};
