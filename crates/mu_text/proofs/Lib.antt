@@ -1,9 +1,12 @@
 pub mod Choice
+pub mod Claims
 pub mod Complete
 mod Digits
 pub mod Exact
+pub mod Excesses
 pub mod Facts
 mod Fronts
+pub mod Given
 pub mod Groups
 pub mod Kept
 pub mod Lists
@@ -11,6 +14,9 @@ mod Longest
 pub mod Marks
 pub mod Measures
 pub mod Only
+pub mod ReasonValues
+pub mod Reasons
+pub mod References
 pub mod Rows
 mod Runs
 pub mod Simple

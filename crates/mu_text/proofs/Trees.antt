@@ -6,14 +6,21 @@ use Rattle.mu_text.specs.declared.fault.Fault.{Fault}
 use Rattle.mu_text.specs.declared.fault.Fault.TheVariants.{Stop, NoMemory}
 use Rattle.mu_text.specs.declared.operand.Operand.{Operand}
 use Rattle.mu_text.specs.Items.{Item, word}
+use Rattle.mu_text.specs.declared.symbol.Mark.TheVariants.{Semicolon}
+use Rattle.mu_text.specs.Marks.{is_mark}
 use Rattle.mu_text.specs.Parts.{Out, found, stopped, Gives}
-use Rattle.mu_text.specs.Writings.{Writing, tokens, Fits}
+use Rattle.mu_text.specs.Writings.{Writing}
 use Rattle.mu_text.specs.Machine.{top, run}
 use Rattle.mu_text.specs.Reads.{ReadsTree, Stands}
 use Rattle.mu_text.specs.Trees.{OneTree, read_tree}
 use Rattle.mu_text.proofs.Complete.{Follows, reads}
 use Rattle.mu_text.proofs.Viable.{Answers, some, start, start_good, run_good, stays}
 use Rattle.mu_text.proofs.Exact.{Exact, Answered}
+use Rattle.mu_text.proofs.Choice.{Fails}
+
+-- no tree goes on, nor a list between semicolons
+abbrev pub NoSemicolon : List Item → Type 0
+NoSemicolon rest = Follows rest × Fails (is_mark Semicolon) rest
 
 full_tree : (ts : List Item) (w : Writing) (rest : List Item) → OneTree ts w → Follows rest → run (start 400) (ts ++ rest) ≡ found w rest
 full_tree ts w rest g s = ap (λ l. run (start 400) (l ++ rest)) (sym g.1) ∙ (reads w 400 top rest g.0 s ∙ stays 400 w rest)

@@ -1,5 +1,5 @@
 -- What is read was written so, and reading stops at the first token with which no writing begins.
-use Rattle.std.proofs.Common.{◌≡◌, ℕ, ◌+◌, ◌-◌, ◌<◌, ◌≤◌, List, [], ◌∷◌, ◌++◌, Bool, true, false, refl, ap, sym, ◌∙◌, subst, append_assoc, append-nil, length, take, length-append, arith}
+use Rattle.std.proofs.Common.{◌≡◌, ℕ, ◌-◌, ◌<◌, ◌≤◌, List, [], ◌∷◌, ◌++◌, Bool, true, false, refl, ap, sym, ◌∙◌, subst, append_assoc, append-nil, arith}
 use Rattle.std.specs.Prelude.{nat_le, if◌then◌else◌}
 use Rattle.mu_text.specs.declared.symbol.Word.{Word}
 use Rattle.mu_text.specs.declared.symbol.Word.TheVariants.{Plain, Dotted, True, Meta, Place}
@@ -14,7 +14,7 @@ use Rattle.mu_text.specs.Items.{Item, word, mark, bytes_of}
 use Rattle.mu_text.specs.Writings.{Writing, Writings, leaf, apply, one, more, tokens, tokens_of, is_head, takes_arguments, Fits, FitsAll, IsTree}
 use Rattle.mu_text.specs.Parts.{Begins, Out, found, stopped}
 use Rattle.mu_text.specs.Machine.{Stack, top, given, fill, Mode, want, named, have, Next, go, done, stop, open_level, begin, close_given, close, after_name, beginning, opening, ending, step, finish, at_end, run}
-use Rattle.mu_text.proofs.Complete.{reads, run_go, le_from}
+use Rattle.mu_text.proofs.Complete.{run_go, le_from}
 
 -- the tokens of the arguments before, each with its comma
 abbrev pub earlier : List Writing → List Item

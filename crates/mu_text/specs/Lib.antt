@@ -1,3 +1,5 @@
+pub mod Claims
+pub mod Excesses
 pub mod Groups
 pub mod Items
 pub mod Machine
@@ -5,6 +7,8 @@ pub mod Marks
 pub mod Parts
 pub mod Reading
 pub mod Reads
+pub mod Reasons
+pub mod References
 pub mod Rows
 pub mod SimpleParts
 pub mod Tokens
