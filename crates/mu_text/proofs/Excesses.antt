@@ -64,7 +64,7 @@ in_each-append : {A : Type 0} (trees : A → List Writing) (xs ys : List A) → 
 in_each-append trees [] ys = refl
 in_each-append trees (x ∷ xs) ys = ap (λ l. trees x ++ l) (in_each-append trees xs ys) ∙ sym (append_assoc (trees x) (in_each trees xs) (in_each trees ys))
 
-all_parts : {A : Type 0} (P : A → Type 0) (xs ys : List A) → AllByRecursion P (xs ++ ys) → AllByRecursion P xs × AllByRecursion P ys
+pub all_parts : {A : Type 0} (P : A → Type 0) (xs ys : List A) → AllByRecursion P (xs ++ ys) → AllByRecursion P xs × AllByRecursion P ys
 all_parts P [] ys h = (tt, h)
 all_parts P (x ∷ xs) ys h = let rest = all_parts P xs ys h.1 in ((h.0, rest.0), rest.1)
 

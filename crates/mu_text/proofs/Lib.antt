@@ -9,6 +9,7 @@ mod Fronts
 pub mod Given
 pub mod Groups
 pub mod Kept
+pub mod Limits
 pub mod Lists
 mod Longest
 pub mod Marks

@@ -2,6 +2,7 @@ pub mod Claims
 pub mod Excesses
 pub mod Groups
 pub mod Items
+pub mod Limits
 pub mod Machine
 pub mod Marks
 pub mod Parts
