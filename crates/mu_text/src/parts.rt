@@ -10,12 +10,21 @@ ghost use Rattle.mu_text.specs.Marks.{is_mark};
 ghost use Rattle.mu_text.specs.Parts.{Gives, Same, StandsEach, at_end, first_as, starts};
 ghost use Rattle.mu_text.specs.SimpleParts.{StandsName, is_number as number_test, is_word as word_test, name_of, number_from, number_of, place_of, plain_name_of, read_kind, read_kinds, read_mark, read_meta, read_name, read_names, read_place, read_plain_name, read_word};
 
+mod claims;
+mod reasons;
+mod refs;
+mod trees;
+
 use crate::fault::Fault;
 use crate::reader::Reader;
 use crate::symbol::{Mark, Sort, Word};
 use crate::tokens::{MOST_DIGITS, split, starts_positive};
+pub use claims::claim;
 use mu_tree::{Kind, Kinds, Name, NameFault, Names};
+pub use reasons::{abstraction, abstractions, reason};
+pub use refs::{reference, references};
 use std::alloc::Global;
+pub use trees::tree;
 
 /// A name with these bytes; where they are past the limit of a name, some other name stands in its place.
 ///
