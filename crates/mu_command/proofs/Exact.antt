@@ -1,20 +1,27 @@
 -- Commands are read exactly.
 use Rattle.std.proofs.Common.{◌≡◌, ℕ, Bool, true, false, List, [], ◌∷◌, ◌++◌, Option, Some, None, refl, ap, sym, ◌∙◌, subst, append-nil, append_assoc}
-use Rattle.std.specs.Prelude.{find, cond}
-use Rattle.mu_text.specs.declared.symbol.Mark.TheVariants.{Arrow}
-use Rattle.mu_text.specs.Items.{Item, word}
+use Rattle.std.specs.Prelude.{find, cond, codes}
+use Rattle.mu_text.specs.declared.symbol.Mark.{Mark}
+use Rattle.mu_text.specs.declared.symbol.Mark.TheVariants.{Arrow, Colon}
+use Rattle.mu_text.specs.Items.{Item, word, mark}
 use Rattle.mu_text.specs.declared.symbol.Word.TheVariants.{Plain}
 use Rattle.mu_text.specs.Parts.{Out, found, Nothing, OneToken, End, given_back, Then, chain, token}
 use Rattle.mu_text.specs.Rows.{Values, SpellsRow, read_row}
-use Rattle.mu_text.specs.SimpleParts.{is_word, name_of, has_bytes}
+use Rattle.mu_text.specs.SimpleParts.{is_word, name_of, has_bytes, AnyName, GivenWord, read_word, read_name}
+use Rattle.mu_text.specs.Groups.{Optional}
 use Rattle.mu_text.proofs.Exact.{Exact, Exact-same, Exact-chain, Exact-pure, Exact-token}
-use Rattle.mu_text.proofs.Simple.{Any, Exact-mark, Exact-name, Exact-plain_name, Exact-kind, from_bytes}
-use Rattle.mu_text.proofs.Groups.{NoOpen, Exact-argument_kinds}
+use Rattle.mu_text.proofs.Simple.{Any, Exact-mark, Exact-name, Exact-plain_name, Exact-kind, Exact-word, from_bytes, is_own_word}
+use Rattle.mu_text.proofs.Choice.{Passes, Fails}
+use Rattle.mu_text.proofs.Complete.{Follows}
+use Rattle.mu_text.proofs.Trees.{Exact-tree}
+use Rattle.mu_text.proofs.Claims.{NoClaim, Exact-claim}
+use Rattle.mu_text.proofs.Reasons.{NoReason, Exact-reason}
+use Rattle.mu_text.proofs.Groups.{NoOpen, Exact-argument_kinds, Exact-optional}
 use Rattle.mu_text.proofs.Rows as rows
 use Rattle.mu_command.specs.declared.form.Form.{Form}
-use Rattle.mu_command.specs.declared.form.Form.TheVariants.{Theory, Constant, Proof, Status}
+use Rattle.mu_command.specs.declared.form.Form.TheVariants.{Theory, Constant, Axiom, Rule, Proof, Line, Cite, Status}
 use Rattle.mu_command.specs.Forms.{keyword, forms, form_of, FormWord, read_form}
-use Rattle.mu_command.specs.Parts.{Part, name, plain, sign, kind, arguments, Value, SpellsPart, read_part}
+use Rattle.mu_command.specs.Parts.{Part, name, plain, given, sign, kind, arguments, before, tree, claim, reason, Value, IsBefore, SpellsPart, read_before, read_part}
 use Rattle.mu_command.specs.Grammar.{row, Spelled, Written, Spells, read_parts, read_command}
 
 -- what is found passes the test
@@ -30,7 +37,11 @@ found_passes test (y ∷ xs) x e = by_first (test y) refl e (found_passes test x
 own_form : (form : Form) → find (λ other. has_bytes (keyword other) (Some (keyword form))) forms ≡ Some form
 own_form Theory = refl
 own_form Constant = refl
+own_form Axiom = refl
+own_form Rule = refl
 own_form Proof = refl
+own_form Line = refl
+own_form Cite = refl
 own_form Status = refl
 
 to_word : (ts : List Item) (form : Form) → OneToken form_of ts form → FormWord ts form
@@ -43,26 +54,64 @@ pub Exact-form : Exact read_form FormWord Any
 unfolding read_form
 Exact-form = Exact-same (token form_of) (OneToken form_of) FormWord Any to_word from_word (Exact-token form_of (word Plain (keyword Theory)) Theory refl Any)
 
+-- whether the token is the word `before`
+abbrev is_before_word : Item → Bool
+is_before_word = is_word (codes "before")
+
+exact_is_before : Exact (chain (read_word (codes "before")) (λ _ l. read_name l)) IsBefore Any
+exact_is_before = Exact-chain (read_word (codes "before")) (λ _ l. read_name l) (GivenWord (codes "before")) (λ _ l y. AnyName l y) Any Any (Exact-word (codes "before")) (λ _. Exact-name) (λ u b y rest h s. tt)
+
+before_passes : (ts : List Item) (x : List ℕ) → IsBefore ts x → Passes is_before_word ts
+before_passes ts x g =
+    subst (Passes is_before_word) (sym (g.3 ∙ ap (λ l. l ++ g.2) g.4.1)) (is_own_word (codes "before") g.4.0 g.4.2)
+
+abbrev pub NoBefore : List Item → Type 0
+NoBefore rest = Any rest × Fails is_before_word rest
+
+exact_before : Exact read_before (Optional IsBefore) NoBefore
+unfolding read_before
+exact_before = Exact-optional is_before_word (chain (read_word (codes "before")) (λ _ l. read_name l)) IsBefore Any exact_is_before before_passes
+
 -- what may follow a part
 abbrev pub Stops : Part → List Item → Type 0
 Stops arguments ts = NoOpen ts
+Stops before ts = NoBefore ts
+Stops tree ts = Follows ts
+Stops claim ts = NoClaim ts
+Stops reason ts = NoReason ts
 Stops _ ts = Any ts
 
 exact_part : (part : Part) → Exact (read_part part) (SpellsPart part) (Stops part)
 exact_part name = Exact-name
 exact_part plain = Exact-plain_name
+exact_part (given text) = Exact-word text
 exact_part (sign m) = Exact-mark m
 exact_part kind = Exact-kind
 exact_part arguments = Exact-argument_kinds
+exact_part before = exact_before
+exact_part tree = Exact-tree
+exact_part claim = Exact-claim
+exact_part reason = Exact-reason
 
-arrow_follows : (ts : List Item) (v : Values Value (sign Arrow ∷ kind ∷ [])) → SpellsRow Value SpellsPart (sign Arrow ∷ kind ∷ []) ts v → NoOpen ts
-arrow_follows ts v g = subst NoOpen (sym (g.2 ∙ ap (λ l. l ++ g.1) g.3)) refl
+-- a mark follows
+mark_follows : (S : List Item → Type 0) (m : Mark) (parts : List Part) → ((rest : List Item) → S (mark m ∷ rest)) → (ts : List Item) (v : Values Value (sign m ∷ parts)) → SpellsRow Value SpellsPart (sign m ∷ parts) ts v → S ts
+mark_follows S m parts stops ts v g = subst S (sym (g.2 ∙ ap (λ l. l ++ g.1) g.3)) (stops g.1)
+
+-- nothing follows
+none_follows : (S : List Item → Type 0) → S [] → (ts : List Item) (v : Values Value []) → SpellsRow Value SpellsPart [] ts v → S ts
+none_follows S stops ts v g = subst S (sym g) stops
 
 -- in each form what follows a part lets it stop there
 linked : (form : Form) → rows.Linked Value read_part SpellsPart Stops (row form)
 linked Theory = (λ ts v g. tt, tt)
-linked Constant = (λ ts v g. tt, (λ ts v g. tt, (arrow_follows, (λ ts v g. tt, (λ ts v g. tt, tt)))))
+linked Constant = (λ ts v g. tt, (λ ts v g. tt, (mark_follows NoOpen Arrow (kind ∷ []) (λ rest. refl), (λ ts v g. tt, (λ ts v g. tt, tt)))))
+linked Axiom = (λ ts v g. tt, (λ ts v g. tt, (λ ts v g. tt, (none_follows NoClaim (tt, tt), tt))))
+linked Rule = (λ ts v g. tt, (λ ts v g. tt, (λ ts v g. tt, (none_follows NoClaim (tt, tt), tt))))
 linked Proof = (λ ts v g. tt, (λ ts v g. tt, tt))
+linked Line =
+    (λ ts v g. tt, (λ ts v g. tt, (λ ts v g. tt, (λ ts v g. tt, (λ ts v g. tt,
+    (mark_follows NoBefore Colon (tree ∷ []) (λ rest. (tt, refl)), (λ ts v g. tt, (none_follows Follows tt, tt))))))))
+linked Cite = (λ ts v g. tt, (λ ts v g. tt, (λ ts v g. tt, (λ ts v g. tt, (none_follows NoReason (((tt, tt), tt), ((tt, tt), tt)), tt)))))
 linked Status = (λ ts v g. tt, tt)
 
 abbrev pub SpellsParts : (form : Form) → List Item → Spelled form → Type 0

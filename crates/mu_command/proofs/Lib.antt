@@ -1,4 +1,3 @@
 pub mod Exact
 pub mod Forms
-pub mod Lines
 pub mod Meant

@@ -4,18 +4,22 @@ use Rattle.mu_text.specs.Items.{Item}
 use Rattle.mu_text.specs.Parts.{Out, starts, token}
 use Rattle.mu_text.specs.SimpleParts.{GivenWord, is_word}
 use Rattle.mu_command.specs.declared.form.Form.{Form}
-use Rattle.mu_command.specs.declared.form.Form.TheVariants.{Theory, Constant, Proof, Status}
+use Rattle.mu_command.specs.declared.form.Form.TheVariants.{Theory, Constant, Axiom, Rule, Proof, Line, Cite, Status}
 
 -- the word that a command of the form begins with
 abbrev pub keyword : Form → List ℕ
 keyword Theory = codes "theory"
 keyword Constant = codes "const"
+keyword Axiom = codes "axiom"
+keyword Rule = codes "rule"
 keyword Proof = codes "proof"
+keyword Line = codes "line"
+keyword Cite = codes "cite"
 keyword Status = codes "status"
 
 -- all forms
 abbrev pub forms : List Form
-forms = Theory ∷ Constant ∷ Proof ∷ Status ∷ []
+forms = Theory ∷ Constant ∷ Axiom ∷ Rule ∷ Proof ∷ Line ∷ Cite ∷ Status ∷ []
 
 -- the token is the word of the form
 abbrev pub FormWord : List Item → Form → Type 0

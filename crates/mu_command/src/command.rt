@@ -1,4 +1,4 @@
-use mu_tree::{Kind, Kinds, Name};
+use mu_tree::{Claim, Kind, Kinds, Name, Tree, Why};
 
 /// What one line of the input asks for.
 #[derive(Debug, Drop)]
@@ -14,10 +14,38 @@ pub enum Command {
         arguments: Kinds,
         result: Kind,
     },
+    /// `axiom U r : claim`: a new axiom.
+    Axiom {
+        unit: Name,
+        rule: Name,
+        claim: Claim,
+    },
+    /// `rule U r : claim`: a new rule that wants a proof.
+    Rule {
+        unit: Name,
+        rule: Name,
+        claim: Claim,
+    },
     /// `proof r p`: a new proof of a rule, which needn't be there.
     Proof {
         rule: Name,
         proof: Name,
+    },
+    /// `line r p l in b before x : t`: a new line of a proof, in a block, before an item or at the end.
+    Line {
+        rule: Name,
+        proof: Name,
+        label: Name,
+        block: Name,
+        before: Option<Name>,
+        tree: Tree,
+    },
+    /// `cite r p l : why`: what a line holds by.
+    Cite {
+        rule: Name,
+        proof: Name,
+        label: Name,
+        why: Why,
     },
     /// `status r`: what is known of a rule.
     Status {

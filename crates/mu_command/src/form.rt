@@ -11,11 +11,24 @@ use mu_text::{Fault, Reader};
 pub enum Form {
     Theory,
     Constant,
+    Axiom,
+    Rule,
     Proof,
+    Line,
+    Cite,
     Status,
 }
 
-const ALL: [Form; 4] = [Form::Theory, Form::Constant, Form::Proof, Form::Status];
+const ALL: [Form; 8] = [
+    Form::Theory,
+    Form::Constant,
+    Form::Axiom,
+    Form::Rule,
+    Form::Proof,
+    Form::Line,
+    Form::Cite,
+    Form::Status,
+];
 
 /// The word that a command of the form begins with.
 pub fn keyword(form: Form) -> &'static [u8]
@@ -24,7 +37,11 @@ pub fn keyword(form: Form) -> &'static [u8]
     match form {
         Form::Theory => b"theory",
         Form::Constant => b"const",
+        Form::Axiom => b"axiom",
+        Form::Rule => b"rule",
         Form::Proof => b"proof",
+        Form::Line => b"line",
+        Form::Cite => b"cite",
         Form::Status => b"status",
     }
 }

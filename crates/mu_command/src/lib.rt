@@ -3,9 +3,7 @@
 
 mod command;
 mod form;
-mod line;
 mod reading;
 
 pub use command::Command;
 pub use form::{Form, keyword};
-pub use line::{Reading, read};

@@ -24,7 +24,7 @@ use mu_tree::{Kind, Kinds, Name, NameFault, Names};
 pub use reasons::{abstraction, abstractions, reason};
 pub use refs::{reference, references};
 use std::alloc::Global;
-pub use trees::tree;
+pub use trees::{measured_tree, tree};
 
 /// A name with these bytes; where they are past the limit of a name, some other name stands in its place.
 ///
