@@ -129,8 +129,7 @@ pub reason-keeps : KeepsNames IsReason WithinReason
 reason-keeps ts (by_rule name refs inst) h g =
     let first = all_parts WithinToken g.0 (g.1 ++ (g.2 ++ g.3)) (at g.4 h) in
     let second = all_parts WithinToken g.1 (g.2 ++ g.3) first.1 in
-    let third = all_parts WithinToken g.2 g.3 second.1 in
-    (
+    let third = all_parts WithinToken g.2 g.3 second.1 in (
       name-keeps g.1 name second.0 g.6,
       led-keeps (codes "from") SomeReferences WithinReference references-keep g.2 refs third.0 g.7,
       led-keeps (codes "with") SomeAbstractions WithinAbstraction abstractions-keep g.3 inst third.1 g.8,
