@@ -1,8 +1,9 @@
 -- Where the names of the tokens are within the limit, so are those of what they spell.
 use Rattle.std.proofs.Common.{◌≡◌, ℕ, ◌-◌, true, List, [], ◌∷◌, ◌++◌, Some, refl, sym, ◌∙◌, subst}
-use Rattle.std.specs.Prelude.{codes}
-use Rattle.std.specs.List.{AllByRecursion}
-use Rattle.mu_tree.specs.Names.{IsName}
+use Rattle.std.specs.Prelude.{codes, ◌&&◌}
+use Rattle.std.specs.List.{AllByRecursion, list_all}
+use Rattle.std.proofs.lemmas.Bool.{and_parts}
+use Rattle.mu_tree.specs.Names.{is_name, is_short, IsName}
 use Rattle.mu_tree.specs.declared.why.Ref.{Ref}
 use Rattle.mu_tree.specs.declared.why.Ref.TheVariants as ref
 use Rattle.mu_text.specs.declared.excess.Measured.{Measured}
@@ -19,7 +20,7 @@ use Rattle.mu_text.specs.References.{IsReference, SomeReferences, WithinReferenc
 use Rattle.mu_text.specs.Claims.{Hypothesis, plain, Sentence, IsHypothesis, Claims, IsClaim, WithinHypothesis, WithinClaim}
 use Rattle.mu_text.specs.Reasons.{Abstraction, IsAbstraction, SomeAbstractions, WithinAbstraction, Reason, by_rule, Led, IsReason, WithinReason}
 use Rattle.mu_text.specs.Excesses.{no_excess, IsMeasured}
-use Rattle.mu_text.specs.Limits.{WithinToken, WithinTokens, KeepsNames}
+use Rattle.mu_text.specs.Limits.{is_within, WithinToken, WithinTokens, KeepsNames}
 use Rattle.mu_text.proofs.Complete.{applied_head}
 use Rattle.mu_text.proofs.Excesses.{all_parts}
 
@@ -55,6 +56,22 @@ meta_within : (T : Item) (text : List ℕ) → meta_of T ≡ Some text → Withi
 meta_within (word Meta name) text e h = move name text e h
 meta_within (word _ name) text e h = cc
 meta_within (mark m) text e h = cc
+
+short_name : (text : List ℕ) → (is_name text && is_short text) ≡ true → IsName text
+short_name text e = let parts = and_parts (is_name text) (is_short text) e in record { spelled = parts.0; short = parts.1 }
+
+token_within : (T : Item) → is_within T ≡ true → WithinToken T
+token_within (word Place text) e = tt
+token_within (word Plain text) e = short_name text e
+token_within (word Dotted text) e = short_name text e
+token_within (word True text) e = short_name text e
+token_within (word Meta text) e = short_name text e
+token_within (mark m) e = tt
+
+-- where each token passes the test, each is within the limit
+pub tokens_within : (ts : List Item) → list_all is_within ts ≡ true → WithinTokens ts
+tokens_within [] e = tt
+tokens_within (T ∷ ts) e = let parts = and_parts (is_within T) (list_all is_within ts) e in (token_within T parts.0, tokens_within ts parts.1)
 
 at : {ts us : List Item} → ts ≡ us → WithinTokens ts → WithinTokens us
 at e h = subst WithinTokens e h
@@ -129,8 +146,7 @@ pub reason-keeps : KeepsNames IsReason WithinReason
 reason-keeps ts (by_rule name refs inst) h g =
     let first = all_parts WithinToken g.0 (g.1 ++ (g.2 ++ g.3)) (at g.4 h) in
     let second = all_parts WithinToken g.1 (g.2 ++ g.3) first.1 in
-    let third = all_parts WithinToken g.2 g.3 second.1 in
-    (
+    let third = all_parts WithinToken g.2 g.3 second.1 in (
       name-keeps g.1 name second.0 g.6,
       led-keeps (codes "from") SomeReferences WithinReference references-keep g.2 refs third.0 g.7,
       led-keeps (codes "with") SomeAbstractions WithinAbstraction abstractions-keep g.3 inst third.1 g.8,

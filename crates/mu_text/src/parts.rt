@@ -1,5 +1,5 @@
-//! The parts of a line that are one token, and lists of them: each is read where it is spelled, and stops at the
-//! first token with which no spelling goes on.
+//! The parts of a line: those of one token, trees, and what is made of them. Each is read where it is spelled, and stops
+//! at the first token with which no spelling goes on.
 
 ghost use Rattle.std.specs.Prelude.{◌≡◌, ◌↔◌, IsTrue, true, Some, None, IfOk, IfErr, MatchOption};
 ghost use Rattle.mu_tree.specs.Names.{is_digit as digit_test};

@@ -108,3 +108,62 @@ fn hypothesis(alloc: Global, reader: &mut Reader) -> Result<Measured<Hyp>, Fault
         excess: tree.excess,
     })
 }
+
+#[cfg(test)]
+mod tests {
+    use super::*;
+    use crate::tokens::Tokens;
+    use std::test::Fail;
+
+    #[test]
+    fn reads_claims(rt: HostRuntime) -> Result<(), Fail> {
+        let alloc = rt.alloc();
+        let lines: [(&[u8], Option<(usize, u64)>, usize); 8] = [
+            (b"f(x)", Some((0, 2)), 0),
+            (b"p |- g(x, y)", Some((1, 3)), 0),
+            (b"p; q(?m) |- r", Some((2, 1)), 0),
+            (b"p |- q |- r", Some((1, 1)), 2),
+            (b"p; q", None, 0),
+            (b"p; q r", None, 1),
+            (b"p |-", None, 0),
+            (b"p; |- q", None, 2),
+        ];
+        for (line, wanted, left) in lines.iter() {
+            let tokens = Tokens::read(alloc, line)?;
+            let mut reader = Reader::new(line, tokens.items());
+            match (claim(alloc, &mut reader), wanted) {
+                (Ok(claim), Some((hyps, size))) => {
+                    assert_eq!(rt; claim.value.hyps.len(), *hyps);
+                    assert_eq!(rt; claim.value.conclusion.size(), *size);
+                    assert!(rt; !claim.excess.nodes && !claim.excess.depth);
+                }
+                (Err(Fault::Stop), None) => (),
+                _ => assert!(rt; false),
+            }
+            assert_eq!(rt; reader.len(), *left);
+        }
+        Ok(())
+    }
+
+    // f(f(..f(x)..)); p |- q
+    #[test]
+    fn keeps_which_limit_is_passed(rt: HostRuntime) -> Result<(), Fail> {
+        let alloc = rt.alloc();
+        for (levels, deep) in [(199, false), (200, true)] {
+            let mut line = Vec::new(alloc);
+            for _ in 0..levels {
+                line.extend_from_slice(b"f(")?;
+            }
+            line.push(b'x')?;
+            for _ in 0..levels {
+                line.push(b')')?;
+            }
+            line.extend_from_slice(b"; p |- q")?;
+            let tokens = Tokens::read(alloc, line.as_slice())?;
+            let mut reader = Reader::new(line.as_slice(), tokens.items());
+            let read = claim(alloc, &mut reader)?;
+            assert!(rt; !read.excess.nodes && read.excess.depth == deep);
+        }
+        Ok(())
+    }
+}

@@ -113,3 +113,49 @@ pub fn reason(alloc: Global, reader: &mut Reader) -> Result<Measured<Why>, Fault
         excess: inst.excess,
     })
 }
+
+#[cfg(test)]
+mod tests {
+    use super::*;
+    use crate::tokens::Tokens;
+    use std::test::Fail;
+
+    // how many references and abstractions a rule has
+    fn counts(why: &Why) -> Option<(usize, usize)> {
+        match why {
+            Why::Rule { refs, inst, .. } => Some((refs.len(), inst.len())),
+            _ => None,
+        }
+    }
+
+    #[test]
+    fn reads_reasons(rt: HostRuntime) -> Result<(), Fail> {
+        let alloc = rt.alloc();
+        let lines: [(&[u8], Option<(usize, usize)>, usize); 9] = [
+            (b"rule r", Some((0, 0)), 0),
+            (b"rule a.b.c from x, y #2, #1", Some((3, 0)), 0),
+            (b"rule r with ?p := q", Some((0, 1)), 0),
+            (
+                b"rule r from x with ?p := q; ?q := f(x, ?m)",
+                Some((1, 2)),
+                0,
+            ),
+            (b"rule r with ?p := q from x", Some((0, 1)), 2),
+            (b"rule r from", None, 0),
+            (b"rule r from with", Some((1, 0)), 0),
+            (b"rule r with p := q", None, 3),
+            (b"hyp #1", None, 2),
+        ];
+        for (line, wanted, left) in lines.iter() {
+            let tokens = Tokens::read(alloc, line)?;
+            let mut reader = Reader::new(line, tokens.items());
+            match (reason(alloc, &mut reader), wanted) {
+                (Ok(read), Some(_)) => assert!(rt; counts(&read.value) == *wanted),
+                (Err(Fault::Stop), None) => (),
+                _ => assert!(rt; false),
+            }
+            assert_eq!(rt; reader.len(), *left);
+        }
+        Ok(())
+    }
+}
