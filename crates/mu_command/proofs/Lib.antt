@@ -1,3 +1,4 @@
 pub mod Exact
 pub mod Forms
+pub mod Lines
 pub mod Meant

@@ -3,7 +3,10 @@
 
 mod command;
 mod form;
+mod line;
 mod reading;
 
 pub use command::Command;
 pub use form::{Form, keyword};
+pub use line::{Reading, read};
+pub use reading::read_command;
