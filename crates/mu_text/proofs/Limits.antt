@@ -4,21 +4,20 @@ use Rattle.std.specs.Prelude.{codes, ◌&&◌}
 use Rattle.std.specs.List.{AllByRecursion, list_all}
 use Rattle.std.proofs.lemmas.Bool.{and_parts}
 use Rattle.mu_tree.specs.Names.{is_name, is_short, IsName}
-use Rattle.mu_tree.specs.declared.why.Ref.{Ref}
 use Rattle.mu_tree.specs.declared.why.Ref.TheVariants as ref
 use Rattle.mu_text.specs.declared.excess.Measured.{Measured}
 use Rattle.mu_text.specs.declared.symbol.Word.{Word}
 use Rattle.mu_text.specs.declared.symbol.Word.TheVariants.{Plain, Dotted, True, Meta, Place}
 use Rattle.mu_text.specs.declared.symbol.Mark.{Mark}
-use Rattle.mu_text.specs.declared.symbol.Mark.TheVariants.{And, Or, Not, Comma, Semicolon, Open, Close, Turnstile}
+use Rattle.mu_text.specs.declared.symbol.Mark.TheVariants.{And, Or, Not, Comma, Semicolon, Close, Turnstile}
 use Rattle.mu_text.specs.Items.{Item, word, mark}
 use Rattle.mu_text.specs.Parts.{More, Separated}
 use Rattle.mu_text.specs.SimpleParts.{plain_name_of, name_of, meta_of, PlainName, AnyName, MetaName}
 use Rattle.mu_text.specs.Writings.{Writing, Writings, leaf, apply, one, more, tokens, tokens_of, is_head, Fits, FitsAll, Short, ShortAll}
 use Rattle.mu_text.specs.Trees.{OneTree}
 use Rattle.mu_text.specs.References.{IsReference, SomeReferences, WithinReference}
-use Rattle.mu_text.specs.Claims.{Hypothesis, plain, Sentence, IsHypothesis, Claims, IsClaim, WithinHypothesis, WithinClaim}
-use Rattle.mu_text.specs.Reasons.{Abstraction, IsAbstraction, SomeAbstractions, WithinAbstraction, Reason, by_rule, Led, IsReason, WithinReason}
+use Rattle.mu_text.specs.Claims.{Hypothesis, plain, IsHypothesis, Claims, IsClaim, WithinHypothesis, WithinClaim}
+use Rattle.mu_text.specs.Reasons.{IsAbstraction, SomeAbstractions, WithinAbstraction, by_rule, Led, IsReason, WithinReason}
 use Rattle.mu_text.specs.Excesses.{no_excess, IsMeasured}
 use Rattle.mu_text.specs.Limits.{is_within, WithinToken, WithinTokens, KeepsNames}
 use Rattle.mu_text.proofs.Complete.{applied_head}
