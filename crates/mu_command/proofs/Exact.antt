@@ -1,12 +1,12 @@
 -- Commands are read exactly.
-use Rattle.std.proofs.Common.{◌≡◌, ℕ, Bool, true, false, List, [], ◌∷◌, ◌++◌, Option, Some, None, refl, ap, sym, ◌∙◌, subst, append-nil, append_assoc}
+use Rattle.std.proofs.Common.{◌≡◌, ℕ, Bool, true, false, List, [], ◌∷◌, ◌++◌, Some, refl, ap, sym, ◌∙◌, subst, append-nil}
 use Rattle.std.specs.Prelude.{find, cond, codes}
 use Rattle.mu_text.specs.declared.symbol.Mark.{Mark}
 use Rattle.mu_text.specs.declared.symbol.Mark.TheVariants.{Arrow, Colon}
 use Rattle.mu_text.specs.Items.{Item, word, mark}
 use Rattle.mu_text.specs.declared.symbol.Word.TheVariants.{Plain}
-use Rattle.mu_text.specs.Parts.{Out, found, Nothing, OneToken, End, given_back, Then, chain, token}
-use Rattle.mu_text.specs.Rows.{Values, SpellsRow, read_row}
+use Rattle.mu_text.specs.Parts.{Nothing, OneToken, End, given_back, Then, chain, token}
+use Rattle.mu_text.specs.Rows.{Values, SpellsRow}
 use Rattle.mu_text.specs.SimpleParts.{is_word, name_of, has_bytes, AnyName, GivenWord, read_word, read_name}
 use Rattle.mu_text.specs.Groups.{Optional}
 use Rattle.mu_text.proofs.Exact.{Exact, Exact-same, Exact-chain, Exact-pure, Exact-token}
@@ -108,9 +108,22 @@ linked Constant = (λ ts v g. tt, (λ ts v g. tt, (mark_follows NoOpen Arrow (ki
 linked Axiom = (λ ts v g. tt, (λ ts v g. tt, (λ ts v g. tt, (none_follows NoClaim (tt, tt), tt))))
 linked Rule = (λ ts v g. tt, (λ ts v g. tt, (λ ts v g. tt, (none_follows NoClaim (tt, tt), tt))))
 linked Proof = (λ ts v g. tt, (λ ts v g. tt, tt))
-linked Line =
-    (λ ts v g. tt, (λ ts v g. tt, (λ ts v g. tt, (λ ts v g. tt, (λ ts v g. tt,
-    (mark_follows NoBefore Colon (tree ∷ []) (λ rest. (tt, refl)), (λ ts v g. tt, (none_follows Follows tt, tt))))))))
+linked Line = (
+  λ ts v g. tt,
+  (
+    λ ts v g. tt,
+    (
+      λ ts v g. tt,
+      (
+        λ ts v g. tt,
+        (
+          λ ts v g. tt,
+          (mark_follows NoBefore Colon (tree ∷ []) (λ rest. (tt, refl)), (λ ts v g. tt, (none_follows Follows tt, tt))),
+        ),
+      ),
+    ),
+  ),
+)
 linked Cite = (λ ts v g. tt, (λ ts v g. tt, (λ ts v g. tt, (λ ts v g. tt, (none_follows NoReason (((tt, tt), tt), ((tt, tt), tt)), tt)))))
 linked Status = (λ ts v g. tt, tt)
 

@@ -4,7 +4,7 @@ use Rattle.std.specs.Prelude.{◌||◌, List, Result, Ok, Err}
 use Rattle.mu_text.specs.declared.fault.Fault.{Fault}
 use Rattle.mu_text.specs.declared.fault.Fault.TheVariants.{Stop, NoMemory}
 use Rattle.mu_text.specs.Items.{Item}
-use Rattle.mu_text.specs.Parts.{Out, found, stopped, ◌>>=◌, Read, Gives, Same}
+use Rattle.mu_text.specs.Parts.{found, ◌>>=◌, Read, Gives, Same}
 use Rattle.mu_text.specs.declared.excess.Excess.{Excess}
 use Rattle.mu_text.specs.declared.excess.Measured.{Measured}
 use Rattle.mu_text.proofs.Excesses.{same_excess}
@@ -13,7 +13,7 @@ use Rattle.mu_command.specs.Parts.{either_excess}
 use Rattle.mu_command.specs.declared.command.Command.{Command}
 use Rattle.mu_command.specs.declared.form.Form.{Form}
 use Rattle.mu_command.specs.Forms.{read_form}
-use Rattle.mu_command.specs.Grammar.{Spelled, Written, StandsForm, StandsCommand, read_parts, read_command}
+use Rattle.mu_command.specs.Grammar.{StandsForm, StandsCommand, read_parts, read_command}
 
 -- a command is read by its word and then by the parts of its form
 after_word : (form : Form) (ts mid : List Item) → Read Same (read_form ts) form mid → read_command ts ≡ (read_parts form mid >>= (λ v rest. found (form, v) rest))

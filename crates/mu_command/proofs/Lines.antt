@@ -1,14 +1,13 @@
 -- What reading a line says of it.
-use Rattle.std.proofs.Common.{◌≡◌, ℕ, ◌-◌, Bool, true, false, List, [], ◌∷◌, length, map, drop, refl, ap, sym, ◌∙◌, subst, inl, inr, arith}
-use Rattle.std.specs.Prelude.{◌||◌, ◌<◌, ◌≤◌, ◌&&◌, ◌==◌, ◌⊎◌, if◌then◌else◌, nat_le}
-use Rattle.std.specs.List.{list_all, AllByRecursion, All}
-use Rattle.std.proofs.lemmas.Bool.{cases_Bool, false≢true, and_parts}
+use Rattle.std.proofs.Common.{◌≡◌, ℕ, ◌-◌, Bool, true, false, List, [], ◌∷◌, length, drop, refl, ap, sym, ◌∙◌, arith}
+use Rattle.std.specs.Prelude.{◌||◌, ◌<◌, ◌≤◌, ◌&&◌, ◌==◌, if◌then◌else◌, nat_le}
+use Rattle.std.specs.List.{list_all, AllByRecursion}
+use Rattle.std.proofs.lemmas.Bool.{false≢true, and_parts}
 use Rattle.std.proofs.lemmas.Bool.Decides.{nat_tests}
 use Rattle.std.proofs.lemmas.List.Splits.{slice_split_none}
 use Rattle.std.proofs.lemmas.List.{length-map}
 use Rattle.std.proofs.lemmas.List.Elements.{All-from_recursion}
 use Rattle.mu_tree.specs.Names.{IsName, is_letter, is_name_byte, is_segment, is_name, is_short, segments}
-use Rattle.mu_text.specs.declared.symbol.Word.{Word}
 use Rattle.mu_text.specs.declared.symbol.Word.TheVariants as word
 use Rattle.mu_text.specs.declared.symbol.Sort.{Sort}
 use Rattle.mu_text.specs.declared.symbol.Sort.TheVariants as sort
@@ -152,8 +151,7 @@ read_whole : (line : List ℕ) (m : Measured Command) (rest : List Item) → has
 unfolding reading_of
 read_whole line m rest short read none =
     let is : read_command (items_of line) ≡ found read.value [] = read.is ∙ ap (λ r. found read.value r) (none_left rest none) in
-    let spells : Spells (items_of line) read.value = reads_exactly read_command Spells Exact-command (items_of line) (found read.value []) is in
-    (
+    let spells : Spells (items_of line) read.value = reads_exactly read_command Spells Exact-command (items_of line) (found read.value []) is in (
       read.value,
       ap (λ b. if b then read_as (tokens line) (read_command (items_of line)) else reading.LongName) short ∙ ap (λ out. read_as (tokens line) out) is,
       command_excess read.value m read.stands,

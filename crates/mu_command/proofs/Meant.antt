@@ -1,16 +1,14 @@
 -- What is kept of a command is what is written, within the limits.
-use Rattle.std.proofs.Common.{◌≡◌, ℕ, List, [], ◌∷◌, ◌++◌, Option, Some, None, refl, ap, sym, ◌∙◌, subst}
-use Rattle.mu_text.specs.declared.excess.Excess.{Excess}
+use Rattle.std.proofs.Common.{◌≡◌, ℕ, List, [], ◌∷◌, Option, Some, None, refl, ap, ◌∙◌, subst}
 use Rattle.mu_text.specs.declared.excess.Measured.{Measured}
 use Rattle.mu_text.specs.Items.{Item}
 use Rattle.mu_text.specs.Rows.{Values, SpellsRow, StandsRow}
-use Rattle.mu_text.specs.Writings.{Writing}
 use Rattle.mu_text.specs.Excesses.{excess_of, no_excess}
 use Rattle.mu_text.specs.Limits.{WithinToken, WithinTokens}
 use Rattle.mu_text.proofs.Excesses.{excess_together, none_together, all_parts}
 use Rattle.mu_text.proofs.Limits.{name-keeps, plain_name-keeps, tree-keeps, claim-keeps, reason-keeps}
 use Rattle.mu_command.specs.declared.command.Command.{Command}
-use Rattle.mu_command.specs.Parts.{Part, name, plain, given, sign, kind, arguments, before, tree, claim, reason, Value, IsBefore, SpellsPart, Meant, meant_part, trees_in, Kept, StandsPart, excess_in, value_in, either_excess}
+use Rattle.mu_command.specs.Parts.{Part, name, plain, given, sign, kind, arguments, before, tree, claim, reason, Value, SpellsPart, meant_part, trees_in, Kept, StandsPart, excess_in, value_in}
 use Rattle.mu_command.specs.Grammar.{row, make, Written, Spells, StandsCommand, meant, command_of, trees_of, trees_of_command, values, excesses}
 
 part_excess : (part : Part) (v : Value part) (k : Kept part) → StandsPart part v k → excess_in part k ≡ excess_of (trees_in part v)

@@ -1,6 +1,5 @@
 -- The parts that commands are made of: what each is spelled by, what reads it, what is kept of it, and what is meant by it.
-use Rattle.std.specs.Prelude.{◌≡◌, ℕ, ◌||◌, List, [], ◌∷◌, ◌++◌, Option, Some, None, codes}
-use Rattle.mu_tree.specs.Names.{IsName}
+use Rattle.std.specs.Prelude.{ℕ, ◌||◌, List, [], ◌∷◌, Option, codes}
 use Rattle.mu_tree.specs.declared.tree.Tree.{Tree}
 use Rattle.mu_tree.specs.declared.claim.Kind.{Kind}
 use Rattle.mu_tree.specs.declared.claim.Claim.{Claim}
@@ -12,10 +11,10 @@ use Rattle.mu_text.specs.Items.{Item}
 use Rattle.mu_text.specs.Parts.{Out, Same, Then, chain}
 use Rattle.mu_text.specs.SimpleParts.{AnyName, PlainName, GivenMark, GivenWord, OneKind, StandsName, is_word, read_mark, read_word, read_name, read_plain_name, read_kind}
 use Rattle.mu_text.specs.Groups.{ArgumentKinds, read_argument_kinds, Optional, optional, StandsOptional}
-use Rattle.mu_text.specs.Writings.{Writing, tree_of, Short}
+use Rattle.mu_text.specs.Writings.{Writing, tree_of}
 use Rattle.mu_text.specs.Trees.{OneTree, read_tree}
-use Rattle.mu_text.specs.Claims.{Sentence, IsClaim, StandsClaim, WithinClaim, claim_of, trees_in_claim, read_claim}
-use Rattle.mu_text.specs.Reasons.{Reason, IsReason, StandsReason, WithinReason, why_of, trees_in_reason, read_reason}
+use Rattle.mu_text.specs.Claims.{Sentence, IsClaim, StandsClaim, claim_of, trees_in_claim, read_claim}
+use Rattle.mu_text.specs.Reasons.{Reason, IsReason, StandsReason, why_of, trees_in_reason, read_reason}
 use Rattle.mu_text.specs.Excesses.{StandsTree, no_excess}
 
 -- a name, one of one segment, a word, a mark, a kind, the kinds of arguments, the item before which another is put, a tree, a claim, and what a line holds by

@@ -1,18 +1,17 @@
 -- What a line reads as.
-use Rattle.std.specs.Prelude.{◌≡◌, ℕ, ◌+◌, ◌-◌, ◌<◌, ◌≤◌, ◌||◌, Bool, true, if◌then◌else◌, List, [], ◌∷◌, length, drop, slice_get, Option, Some, None}
+use Rattle.std.specs.Prelude.{◌≡◌, ℕ, ◌+◌, ◌-◌, ◌<◌, ◌≤◌, ◌||◌, Bool, true, if◌then◌else◌, List, [], ◌∷◌, length, drop, slice_get}
 use Rattle.std.specs.Option.{option_map_or}
 use Rattle.std.specs.List.{list_all, All}
-use Rattle.mu_tree.specs.Names.{IsName, is_short}
+use Rattle.mu_tree.specs.Names.{is_short}
 use Rattle.mu_text.specs.declared.token.Token.{Token}
 use Rattle.mu_text.specs.declared.token.TokenSort.{TokenSort}
-use Rattle.mu_text.specs.declared.token.TokenSort.TheVariants.{Name, Meta, Place, Symbol, Wrong}
+use Rattle.mu_text.specs.declared.token.TokenSort.TheVariants.{Meta}
 use Rattle.mu_text.specs.Reading.{text_of}
 use Rattle.mu_text.specs.Tokens.{tokens}
-use Rattle.mu_text.specs.Items.{Item, items_of}
+use Rattle.mu_text.specs.Items.{items_of}
 use Rattle.mu_text.specs.Parts.{Out, found, stopped, Refused}
 use Rattle.mu_text.specs.declared.excess.Excess.{Excess}
 use Rattle.mu_text.specs.Excesses.{excess_of, no_excess}
-use Rattle.mu_command.specs.declared.command.Command.{Command}
 use Rattle.mu_command.specs.declared.line.Reading.{Reading}
 use Rattle.mu_command.specs.declared.line.Reading.TheVariants as reading
 use Rattle.mu_command.specs.Grammar.{Written, Spells, command_of, trees_of_command, read_command}

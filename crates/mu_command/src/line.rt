@@ -4,13 +4,16 @@ ghost use Rattle.mu_text.specs.declared.token.Token.{Token};
 ghost use Rattle.mu_text.specs.Reading.{text_of};
 ghost use Rattle.mu_command.specs.declared.line.Reading.TheVariants as Reading;
 ghost use Rattle.mu_command.specs.Readings.{AreWithin, ReadingIsExact, column, column_behind, is_past, is_short_token, reading_of, segments_of};
-ghost use Rattle.mu_tree.specs.Names.{is_short};
+ghost use Rattle.mu_tree.specs.Names.{is_short as short_test};
 
 use crate::command::Command;
 use crate::reading::read_command;
 use mu_text::{Excess, Fault, Measured, Reader, Token, TokenSort, Tokens, text};
-use mu_tree::{NoMemory, is_short};
+use mu_tree::NoMemory;
 use std::alloc::Global;
+
+/// The most bytes of a segment of a name.
+const LONGEST_SEGMENT: usize = 64;
 
 /// What a line reads as.
 #[derive(Debug, Drop)]
@@ -69,6 +72,14 @@ fn are_short(line: &[u8], tokens: &[Token]) -> bool
     ensures { result ≡ list_all (is_short_token line.now) tokens.now }
 {
     tokens.iter().all(|token| is_short(segments(line, *token)))
+}
+
+/// Whether no segment of the text has more bytes than a name may have.
+fn is_short(text: &[u8]) -> bool
+    ensures { result ≡ short_test text.now }
+{
+    text.split(|byte| *byte == b'.')
+        .all(|segment| segment.len() <= LONGEST_SEGMENT)
 }
 
 /// The part of a token's bytes that is made of segments.
@@ -133,7 +144,7 @@ mod tests {
     #[test]
     fn tells_the_column(rt: HostRuntime) -> Result<(), Fail> {
         let alloc = rt.alloc();
-        let lines: [(&[u8], usize); 24] = [
+        let lines: [(&[u8], usize); 47] = [
             (b"theory t", 0),
             (b"  theory   and ", 0),
             (b"theory", 7),
@@ -142,20 +153,43 @@ mod tests {
             (b"theory t u", 10),
             (b"theory ?t", 8),
             (b"theorem t", 1),
-            (b"Theory t", 1),
             (b"; theory t", 1),
             (b"const t p -> e", 0),
-            (b"const t p(e, e) -> e", 0),
-            (b"const t p ( e ) -> e", 0),
+            (b"const t p ( e,e ) -> e", 0),
             (b"const t p() -> e", 11),
             (b"const t p(e,) -> e", 13),
             (b"const t p(e", 12),
             (b"const t p -> z", 14),
             (b"const t p - e", 11),
             (b"const t p -> e e", 16),
+            (b"axiom t a : p", 0),
+            (b"axiom t a : p(q, ?m)", 0),
+            (b"axiom t a : p; q |- r", 0),
+            (b"axiom t a : p |- r", 0),
+            (b"axiom t a : p; q", 17),
+            (b"axiom t a : p q", 15),
+            (b"axiom t a : |- q", 13),
+            (b"axiom t a : and", 13),
+            (b"axiom t.u a : p", 7),
+            (b"rule t a : ?m(p)", 14),
+            (b"rule t a p", 10),
             (b"proof a.b.c p", 0),
             (b"proof a.b.c p.q", 13),
             (b"proof a.b.c.d p", 7),
+            (b"line a.b p l in root : q", 0),
+            (b"line r p l in b before x : q", 0),
+            (b"line r p l in before before before : q", 0),
+            (b"line r p l in root q", 20),
+            (b"line r p l on root : q", 12),
+            (b"line r p l in root before : q", 27),
+            (b"cite r p l : rule x", 0),
+            (b"cite r p l : rule x from l1, b#2 #3", 34),
+            (b"cite r p l : rule x from l1, b#2, #3", 0),
+            (b"cite r p l : rule x with ?m := p; ?n := q(?m)", 0),
+            (b"cite r p l : rule x from l1 with ?m := p", 0),
+            (b"cite r p l : rule x with ?m := p from l1", 34),
+            (b"cite r p l : rule x with ?m = p", 29),
+            (b"cite r p l : same k", 14),
             (b"status a.b", 0),
             (b"status", 7),
         ];

@@ -9,8 +9,7 @@ ghost use Rattle.mu_command.specs.Grammar.{StandsForm, StandsCommand, read_parts
 
 use crate::command::Command;
 use crate::form::{Form, read_form};
-use mu_text::parts;
-use mu_text::{Excess, Fault, Mark, Measured, Reader};
+use mu_text::{Excess, Fault, Mark, Measured, Reader, parts};
 use mu_tree::Name;
 use std::alloc::Global;
 

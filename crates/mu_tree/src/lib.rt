@@ -16,7 +16,7 @@ pub use bytes::{is_letter, is_name_byte};
 pub use claim::{Claim, Definition, Hyp, Hyps, Kind, Kinds, Shape, TypedVar, TypedVars};
 pub use duplicate::Duplicate;
 pub use memory::NoMemory;
-pub use name::{Name, NameFault, Names, is_short};
+pub use name::{Name, NameFault, Names};
 pub use refusal::Refusal;
 pub use sequence::{Bytes, Numbers, Sequence};
 pub use table::{NameSet, Table};

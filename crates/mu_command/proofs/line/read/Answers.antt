@@ -1,7 +1,5 @@
-use Rattle.std.proofs.Common.{rules, ◌≡◌, true, length, sym, ◌∙◌, ap, subst}
+use Rattle.std.proofs.Common.{rules, ◌≡◌, true, length}
 use Rattle.mu_text.specs.Items.{items_of}
-use Rattle.mu_text.specs.Parts.{Read}
-use Rattle.mu_command.specs.Grammar.{StandsCommand, read_command}
 use Rattle.mu_command.specs.Readings.{has_short_tokens}
 use Rattle.mu_command.proofs.Lines.{read_value}
 use Rattle.mu_command.proofs.line.read.Goals as goal

@@ -1,4 +1,3 @@
-use Rattle.std.proofs.Common.{rules, ◌≡◌, refl}
 use Rattle.mu_command.specs.declared.form.Form.TheVariants.{Constant, Axiom, Rule, Line, Cite}
 use Rattle.mu_command.proofs.Forms.{form_then}
 use Rattle.mu_command.proofs.reading.read_command.Goals as goal

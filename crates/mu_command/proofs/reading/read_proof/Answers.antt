@@ -1,9 +1,8 @@
-use Rattle.std.proofs.Common.{rules, ◌≡◌, refl}
 use Rattle.mu_text.proofs.Rows.{row_made, row_next, row_end}
 use Rattle.mu_command.specs.declared.form.Form.TheVariants.{Proof}
 use Rattle.mu_command.specs.Parts.{Value, Kept, read_part, StandsPart}
 use Rattle.mu_command.specs.Grammar.{read_parts, row, make_kept}
-use Rattle.mu_command.proofs.Forms.{measured_is, last_excess}
+use Rattle.mu_command.proofs.Forms.{measured_is}
 use Rattle.mu_command.proofs.reading.read_proof.Goals as goal
 
 pub returns : goal.returns
