@@ -1,7 +1,7 @@
 -- A reader that is exact, online and always within reach of some spelling; how such readers join.
 use Rattle.std.proofs.Common.{◌≡◌, ◌+◌, ◌≤◌, List, [], ◌∷◌, ◌++◌, length, Option, Some, None, refl, ap, sym, ◌∙◌, subst, append_assoc, append-nil, length-append, arith}
 use Rattle.mu_text.specs.Items.{Item}
-use Rattle.mu_text.specs.Parts.{Begins, Out, found, stopped, ◌>>=◌, taken, token, OneToken, Nothing, given_back, End, at_end, Then, chain}
+use Rattle.mu_text.specs.Parts.{Begins, Out, found, stopped, ◌>>=◌, taken, token, OneToken, Nothing, given_back, End, at_end, Then, chain, Made, mapped}
 
 abbrev pub Answered : {A : Type 0} → (List Item → Out A) → (List Item → A → Type 0) → List Item → Out A → Type 0
 Answered p G ts (found x rest) =
@@ -93,6 +93,18 @@ Exact-pure x R = record {
   sample_value = x;
   sample_ok = (refl, refl);
 }
+
+-- what is made of the value of a part
+pub Exact-mapped : {A B : Type 0} (make : A → B) (p : List Item → Out A) (G : List Item → A → Type 0) (S : List Item → Type 0) → Exact p G S → Exact (mapped make p) (Made make G) S
+Exact-mapped {A} {B} make p G S P =
+    Exact-same (mapped make p) (Then G (λ x. Nothing (make x))) (Made make G) S to from
+    (Exact-chain p (λ x. given_back (make x)) G (λ x. Nothing (make x)) S S P (λ x. Exact-pure (make x) S) (λ x b y rest g s. subst (λ (l : List Item). S (l ++ rest)) (sym g.0) s))
+  where
+    to : (ts : List Item) (y : B) → Then G (λ x. Nothing (make x)) ts y → Made make G ts y
+    to ts y g = (g.0, subst (λ (l : List Item). G l g.0) (sym (g.3 ∙ (ap (λ l. g.1 ++ l) g.5.0 ∙ append-nil g.1))) g.4, g.5.1)
+
+    from : (ts : List Item) (y : B) → Made make G ts y → Then G (λ x. Nothing (make x)) ts y
+    from ts y g = (g.0, ts, [], sym (append-nil ts), g.1, (refl, g.2))
 
 pub Exact-token : {A : Type 0} (f : Item → Option A) (T : Item) (x : A) → f T ≡ Some x → (S : List Item → Type 0) → Exact (token f) (OneToken f) S
 Exact-token {A} f T x e S = record {

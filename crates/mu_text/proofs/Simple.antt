@@ -49,7 +49,7 @@ same_bytes text = (bytes_eq-Decides text text).1 refl
 equal_bytes : (name text : List ℕ) → pointwise nat_eq name text ≡ true → name ≡ text
 equal_bytes name text e = (bytes_eq-Decides name text).0 e
 
-from_bytes : (text : List ℕ) (o : Option (List ℕ)) → has_bytes text o ≡ true → o ≡ Some text
+pub from_bytes : (text : List ℕ) (o : Option (List ℕ)) → has_bytes text o ≡ true → o ≡ Some text
 from_bytes text None e = cc
 from_bytes text (Some name) e = ap (λ l. Some l) (equal_bytes name text e)
 

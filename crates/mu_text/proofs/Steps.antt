@@ -12,7 +12,8 @@ use Rattle.mu_text.specs.declared.operand.Operand.{Operand}
 use Rattle.mu_text.specs.declared.operand.Several.{Several}
 use Rattle.mu_text.specs.Items.{Item, first_sort, after_first}
 use Rattle.mu_text.specs.Writings.{Writing, Writings, leaf, apply, one, more, made, nodes, nodes_of, deep, deep_of, Short, ShortAll, tree_of, trees_of}
-use Rattle.mu_text.specs.Machine.{Stack, given, fill, want, named, have, stopped, run, after_name, opening_of, ending_of}
+use Rattle.mu_text.specs.Parts.{stopped}
+use Rattle.mu_text.specs.Machine.{Stack, given, fill, want, named, have, run, after_name, opening_of, ending_of}
 use Rattle.mu_text.specs.Reads.{capped, Stands, StandsAll, Built, Added, Goes, Gives, Stops}
 use Rattle.mu_text.proofs.Complete.{run_same, arguments_run, ends_run, goes_on_run}
 

@@ -28,25 +28,17 @@ each_same [] (y ∷ ys) h = absurd h
 each_same (x ∷ xs) [] h = absurd h
 each_same (x ∷ xs) (y ∷ ys) h = let i : ys ≡ xs = each_same xs ys h.1 in let e : y ≡ x = h.0 in cc
 
--- from the tokens `old` the items `ys` have been read, and the rest is read as before
-pub record Turn {A B : Type 0} (S : A → B → Type 0) (sign : Mark) (item : List Item → Out A) (old rest : List Item) (ys : List B) : Type 0 where
+-- of the list that is read as a whole the items that c holds have been read, and the rest is read as before
+pub record Turn {A C : Type 0} (K : List A → C → Type 0) (sign : Mark) (item : List Item → Out A) (whole : Out (List A)) (rest : List Item) (c : C) : Type 0 where
   pub front : List A
   pub bound : ℕ
   pub enough : length rest ≤ bound
-  pub stands : StandsEach S front ys
-  pub same : extended front (more_of sign item bound rest) ≡ separated sign item old
+  pub stands : K front c
+  pub same : extended front (more_of sign item bound rest) ≡ whole
 
-module _ {A B : Type 0} (S : A → B → Type 0) (sign : Mark) (item : List Item → Out A) (G : List Item → A → Type 0) (R : List Item → Type 0) (P : Exact item G R) where
-  first_turn : (old rest : List Item) (none ys : List B) (y : B) → Read S (item old) y rest → none ≡ [] → ys ≡ none ++ (y ∷ []) → Turn S sign item old rest ys
-  first_turn old rest none ys y read n i =
-      let one : ys ≡ y ∷ [] = i ∙ ap (λ l. l ++ (y ∷ [])) n in
-      record {
-        front = read.value ∷ [];
-        bound = length rest;
-        enough = omega arith;
-        stands = subst (λ (l : List B). StandsEach S (read.value ∷ []) l) (sym one) (read.stands, tt);
-        same = sym (ap (λ out. out >>= (λ z r. with_first z (read_more sign item r))) read.is);
-      }
+module _ {A C : Type 0} (K : List A → C → Type 0) (sign : Mark) (item : List Item → Out A) where
+  first_turn : (whole : Out (List A)) (rest : List Item) (x : A) (c : C) → whole ≡ with_first x (read_more sign item rest) → K (x ∷ []) c → Turn K sign item whole rest c
+  first_turn whole rest x c e k = record { front = x ∷ []; bound = length rest; enough = omega arith; stands = k; same = sym e }
 
   on_sign : (n : ℕ) (T : Item) (mid : List Item) → is_mark sign T ≡ true → more_of sign item (suc n) (T ∷ mid) ≡ (item mid >>= (λ x r. with_first x (more_of sign item n r)))
   on_sign n T mid e = ap (λ b. if b then (item mid >>= (λ x r. with_first x (more_of sign item n r))) else found [] (T ∷ mid)) e
@@ -56,73 +48,89 @@ module _ {A B : Type 0} (S : A → B → Type 0) (sign : Mark) (item : List Item
   on_other zero (T ∷ mid) h e = refl
   on_other (suc n) (T ∷ mid) h e = ap (λ b. if b then (item mid >>= (λ x r. with_first x (more_of sign item n r))) else found [] (T ∷ mid)) e
 
-  next_turn : (old rest mid new : List Item) (ys zs : List B) (y : B) → Turn S sign item old rest ys → starts (is_mark sign) rest ≡ true → mid ≡ after_first rest
-      → Read S (item mid) y new → zs ≡ ys ++ (y ∷ []) → Turn S sign item old new zs
-  next_turn old [] mid new ys zs y t e j read i = cc
-  next_turn old (T ∷ r) mid new ys zs y t e j read i = at t.bound refl
-    where
-      at : (bound : ℕ) → t.bound ≡ bound → Turn S sign item old new zs
-      at zero q = (let k : length (T ∷ r) ≤ t.bound = t.enough in absurd (omega arith))
-      at (suc bound) q =
-          let k : length (T ∷ r) ≤ t.bound = t.enough in
-          let m : length mid ≡ length r = ap length j in
-          let less : length new ≤ length mid = shorter item G R P mid read.value new read.is in
-          let step : more_of sign item (suc bound) (T ∷ r) ≡ with_first read.value (more_of sign item bound new) =
-          on_sign bound T r e ∙ (ap (λ l. item l >>= (λ z u. with_first z (more_of sign item bound u))) (sym j) ∙ ap (λ out. out >>= (λ z u. with_first z (more_of sign item bound u))) read.is) in
-          record {
-            front = t.front ++ (read.value ∷ []);
-            bound = bound;
-            enough = omega arith;
-            stands = subst (λ (l : List B). StandsEach S (t.front ++ (read.value ∷ [])) l) (sym i) (each_more S t.front ys read.value y t.stands read.stands);
-            same = sym (again t.front read.value (more_of sign item bound new)) ∙ (ap (extended t.front) (sym step) ∙ (ap (λ n. extended t.front (more_of sign item n (T ∷ r))) (sym q) ∙ t.same));
-          }
-
-  next_fewer : (rest mid new : List Item) (y : B) → starts (is_mark sign) rest ≡ true → mid ≡ after_first rest → Read S (item mid) y new → length new < length rest
-  next_fewer [] mid new y e j read = cc
-  next_fewer (T ∷ r) mid new y e j read = let m : length mid ≡ length r = ap length j in let less : length new ≤ length mid = shorter item G R P mid read.value new read.is in omega arith
-
-  last_turn : (old rest : List Item) (ys : List B) → Turn S sign item old rest ys → starts (is_mark sign) rest ≡ false → Read (StandsEach S) (separated sign item old) ys rest
-  last_turn old rest ys t e = record {
+  last_turn : (whole : Out (List A)) (rest : List Item) (c : C) → Turn K sign item whole rest c → starts (is_mark sign) rest ≡ false → Read K whole c rest
+  last_turn whole rest c t e = record {
     value = t.front;
     is = sym t.same ∙ (ap (extended t.front) (on_other t.bound rest t.enough e) ∙ ap (λ l. found l rest) (append-nil t.front));
     stands = t.stands;
   }
 
-  stopped_turn : (old rest mid new : List Item) (ys : List B) → Turn S sign item old rest ys → starts (is_mark sign) rest ≡ true → mid ≡ after_first rest → item mid ≡ stopped new
-      → separated sign item old ≡ stopped new
-  stopped_turn old [] mid new ys t e j g = cc
-  stopped_turn old (T ∷ r) mid new ys t e j g = at t.bound refl
+  stopped_turn : (whole : Out (List A)) (rest mid new : List Item) (c : C) → Turn K sign item whole rest c → starts (is_mark sign) rest ≡ true → mid ≡ after_first rest → item mid ≡ stopped new
+      → whole ≡ stopped new
+  stopped_turn whole [] mid new c t e j g = cc
+  stopped_turn whole (T ∷ r) mid new c t e j g = at t.bound refl
     where
-      at : (bound : ℕ) → t.bound ≡ bound → separated sign item old ≡ stopped new
+      at : (bound : ℕ) → t.bound ≡ bound → whole ≡ stopped new
       at zero q = (let k : length (T ∷ r) ≤ t.bound = t.enough in absurd (omega arith))
       at (suc bound) q =
           let step : more_of sign item (suc bound) (T ∷ r) ≡ stopped new =
           on_sign bound T r e ∙ (ap (λ l. item l >>= (λ z u. with_first z (more_of sign item bound u))) (sym j) ∙ ap (λ out. out >>= (λ z u. with_first z (more_of sign item bound u))) g) in
           sym t.same ∙ (ap (λ n. extended t.front (more_of sign item n (T ∷ r))) q ∙ ap (extended t.front) step)
 
-module _ {A B : Type 0} {S : A → B → Type 0} {sign : Mark} {item : List Item → Out A} {G : List Item → A → Type 0} {R : List Item → Type 0} (P : Exact item G R) where
+  module _ {B : Type 0} (S : A → B → Type 0) (G : List Item → A → Type 0) (R : List Item → Type 0) (P : Exact item G R) where
+    next_turn : (whole : Out (List A)) (rest mid new : List Item) (c d : C) (y : B) → Turn K sign item whole rest c → starts (is_mark sign) rest ≡ true → mid ≡ after_first rest
+        → Read S (item mid) y new → ((front : List A) (x : A) → K front c → S x y → K (front ++ (x ∷ [])) d) → Turn K sign item whole new d
+    next_turn whole [] mid new c d y t e j read k = cc
+    next_turn whole (T ∷ r) mid new c d y t e j read k = at t.bound refl
+      where
+        at : (bound : ℕ) → t.bound ≡ bound → Turn K sign item whole new d
+        at zero q = (let l : length (T ∷ r) ≤ t.bound = t.enough in absurd (omega arith))
+        at (suc bound) q =
+            let l : length (T ∷ r) ≤ t.bound = t.enough in
+            let m : length mid ≡ length r = ap length j in
+            let less : length new ≤ length mid = shorter item G R P mid read.value new read.is in
+            let step : more_of sign item (suc bound) (T ∷ r) ≡ with_first read.value (more_of sign item bound new) =
+            on_sign bound T r e ∙ (ap (λ o. item o >>= (λ z u. with_first z (more_of sign item bound u))) (sym j) ∙ ap (λ out. out >>= (λ z u. with_first z (more_of sign item bound u))) read.is) in
+            record {
+              front = t.front ++ (read.value ∷ []);
+              bound = bound;
+              enough = omega arith;
+              stands = k t.front read.value t.stands read.stands;
+              same = sym (again t.front read.value (more_of sign item bound new)) ∙ (ap (extended t.front) (sym step) ∙ (ap (λ n. extended t.front (more_of sign item n (T ∷ r))) (sym q) ∙ t.same));
+            }
+
+module _ {A C : Type 0} {K : List A → C → Type 0} {sign : Mark} {item : List Item → Out A} where
   -- after the first item
-  pub start : {old rest : List Item} {none ys : List B} {y : B} → Read S (item old) y rest → none ≡ [] → ys ≡ none ++ (y ∷ []) → Turn S sign item old rest ys
-  start {old = old} {rest = rest} {none = none} {ys = ys} {y = y} read n i = first_turn S sign item G R P old rest none ys y read n i
-
-  -- after one more mark and item
-  pub turn : {old rest mid new : List Item} {ys zs : List B} {y : B} {seen : Bool} → Turn S sign item old rest ys → seen ≡ starts (is_mark sign) rest → seen ≡ true → mid ≡ after_first rest
-      → Read S (item mid) y new → zs ≡ ys ++ (y ∷ []) → Turn S sign item old new zs
-  turn {old = old} {rest = rest} {mid = mid} {new = new} {ys = ys} {zs = zs} {y = y} {seen = seen} t e passes j read i = next_turn S sign item G R P old rest mid new ys zs y t (sym e ∙ passes) j read i
-
-  -- a turn leaves fewer tokens
-  pub fewer : {old rest mid new : List Item} {ys : List B} {y : B} {seen : Bool} → Turn S sign item old rest ys → seen ≡ starts (is_mark sign) rest → seen ≡ true → mid ≡ after_first rest
-      → Read S (item mid) y new → length new < length rest
-  fewer {old = old} {rest = rest} {mid = mid} {new = new} {ys = ys} {y = y} {seen = seen} t e passes j read = next_fewer S sign item G R P rest mid new y (sym e ∙ passes) j read
+  pub begin : {whole : Out (List A)} {rest : List Item} {c : C} (x : A) → whole ≡ with_first x (read_more sign item rest) → K (x ∷ []) c → Turn K sign item whole rest c
+  begin {whole = whole} {rest = rest} {c = c} x e k = first_turn K sign item whole rest x c e k
 
   -- where no mark follows, the list is read
-  pub finish : {old rest : List Item} {ys : List B} {seen : Bool} → Turn S sign item old rest ys → seen ≡ starts (is_mark sign) rest → seen ≡ false → Read (StandsEach S) (separated sign item old) ys rest
-  finish {old = old} {rest = rest} {ys = ys} {seen = seen} t e fails = last_turn S sign item G R P old rest ys t (sym e ∙ fails)
+  pub finish : {whole : Out (List A)} {rest : List Item} {c : C} {seen : Bool} → Turn K sign item whole rest c → seen ≡ starts (is_mark sign) rest → seen ≡ false → Read K whole c rest
+  finish {whole = whole} {rest = rest} {c = c} {seen = seen} t e fails = last_turn K sign item whole rest c t (sym e ∙ fails)
 
   -- where no item goes on behind the mark, neither does the list
-  pub stops : {old rest mid new : List Item} {ys : List B} {seen : Bool} → Turn S sign item old rest ys → seen ≡ starts (is_mark sign) rest → seen ≡ true → mid ≡ after_first rest
-      → item mid ≡ stopped new → separated sign item old ≡ stopped new
-  stops {old = old} {rest = rest} {mid = mid} {new = new} {ys = ys} {seen = seen} t e passes j g = stopped_turn S sign item G R P old rest mid new ys t (sym e ∙ passes) j g
+  pub stops : {whole : Out (List A)} {rest mid new : List Item} {c : C} {seen : Bool} → Turn K sign item whole rest c → seen ≡ starts (is_mark sign) rest → seen ≡ true → mid ≡ after_first rest
+      → item mid ≡ stopped new → whole ≡ stopped new
+  stops {whole = whole} {rest = rest} {mid = mid} {new = new} {c = c} {seen = seen} t e passes j g = stopped_turn K sign item whole rest mid new c t (sym e ∙ passes) j g
+
+  module _ {B : Type 0} {S : A → B → Type 0} {G : List Item → A → Type 0} {R : List Item → Type 0} (P : Exact item G R) where
+    -- after one more mark and item
+    pub advance : {whole : Out (List A)} {rest mid new : List Item} {c d : C} {y : B} {seen : Bool} → Turn K sign item whole rest c → seen ≡ starts (is_mark sign) rest → seen ≡ true → mid ≡ after_first rest
+        → Read S (item mid) y new → ((front : List A) (x : A) → K front c → S x y → K (front ++ (x ∷ [])) d) → Turn K sign item whole new d
+    advance {whole = whole} {rest = rest} {mid = mid} {new = new} {c = c} {d = d} {y = y} {seen = seen} t e passes j read k = next_turn K sign item S G R P whole rest mid new c d y t (sym e ∙ passes) j read k
+
+-- a turn leaves fewer tokens
+pub fewer : {A B : Type 0} {S : A → B → Type 0} {item : List Item → Out A} {G : List Item → A → Type 0} {R : List Item → Type 0} (sign : Mark) (P : Exact item G R) (rest mid : List Item) {new : List Item} {y : B} {seen : Bool}
+    → seen ≡ starts (is_mark sign) rest → seen ≡ true → mid ≡ after_first rest → Read S (item mid) y new → length new < length rest
+fewer {S = S} {item = item} {G = G} {R = R} sign P rest mid {new = new} {y = y} e passes j read = at rest (sym e ∙ passes) j
+  where
+    at : (rest : List Item) → starts (is_mark sign) rest ≡ true → mid ≡ after_first rest → length new < length rest
+    at [] h i = cc
+    at (T ∷ r) h i = let m : length mid ≡ length r = ap length i in let less : length new ≤ length mid = shorter item G R P mid read.value new read.is in omega arith
+
+module _ {A B : Type 0} {S : A → B → Type 0} {sign : Mark} {item : List Item → Out A} {G : List Item → A → Type 0} {R : List Item → Type 0} (P : Exact item G R) where
+  -- the turns of a loop that keeps a value for each item
+  pub start : {old rest : List Item} {none ys : List B} {y : B} → Read S (item old) y rest → none ≡ [] → ys ≡ none ++ (y ∷ []) → Turn (StandsEach S) sign item (separated sign item old) rest ys
+  start {old = old} {rest = rest} {none = none} {ys = ys} {y = y} read n i =
+      let one : ys ≡ y ∷ [] = i ∙ ap (λ l. l ++ (y ∷ [])) n in
+      first_turn (StandsEach S) sign item (separated sign item old) rest read.value ys (ap (λ out. out >>= (λ z r. with_first z (read_more sign item r))) read.is)
+      (subst (λ (l : List B). StandsEach S (read.value ∷ []) l) (sym one) (read.stands, tt))
+
+  pub turn : {whole : Out (List A)} {rest mid new : List Item} {ys zs : List B} {y : B} {seen : Bool} → Turn (StandsEach S) sign item whole rest ys → seen ≡ starts (is_mark sign) rest → seen ≡ true
+      → mid ≡ after_first rest → Read S (item mid) y new → zs ≡ ys ++ (y ∷ []) → Turn (StandsEach S) sign item whole new zs
+  turn {whole = whole} {rest = rest} {mid = mid} {new = new} {ys = ys} {zs = zs} {y = y} {seen = seen} t e passes j read i =
+      next_turn (StandsEach S) sign item S G R P whole rest mid new ys zs y t (sym e ∙ passes) j read
+      (λ front x k s. subst (λ (l : List B). StandsEach S (front ++ (x ∷ [])) l) (sym i) (each_more S front ys x y k s))
 
 -- where each value is the spelled one, so is the list
 pub finish_same : {A : Type 0} {out : Out (List A)} {ys : List A} {rest : List Item} → Read (StandsEach (Same {A = A})) out ys rest → Read (Same {A = List A}) out ys rest

@@ -1,5 +1,5 @@
 -- What is read was written so, and reading stops at the first token with which no writing begins.
-use Rattle.std.proofs.Common.{◌≡◌, ℕ, ◌+◌, ◌-◌, ◌<◌, ◌≤◌, List, [], ◌∷◌, ◌++◌, Bool, true, false, refl, ap, sym, ◌∙◌, subst, append_assoc, append-nil, length, take, length-append, arith}
+use Rattle.std.proofs.Common.{◌≡◌, ℕ, ◌-◌, ◌<◌, ◌≤◌, List, [], ◌∷◌, ◌++◌, Bool, true, false, refl, ap, sym, ◌∙◌, subst, append_assoc, append-nil, arith}
 use Rattle.std.specs.Prelude.{nat_le, if◌then◌else◌}
 use Rattle.mu_text.specs.declared.symbol.Word.{Word}
 use Rattle.mu_text.specs.declared.symbol.Word.TheVariants.{Plain, Dotted, True, Meta, Place}
@@ -11,9 +11,10 @@ use Rattle.mu_text.specs.declared.way.Opening.TheVariants as opens
 use Rattle.mu_text.specs.declared.way.Ending.{Ending}
 use Rattle.mu_text.specs.declared.way.Ending.TheVariants as ends
 use Rattle.mu_text.specs.Items.{Item, word, mark, bytes_of}
-use Rattle.mu_text.specs.Writings.{Writing, Writings, leaf, apply, one, more, tokens, tokens_of, is_head, takes_arguments, Fits, FitsAll, Begins, IsTree, Refused}
-use Rattle.mu_text.specs.Machine.{Stack, top, given, fill, Mode, want, named, have, Next, go, done, stop, open_level, begin, close_given, close, after_name, beginning, opening, ending, step, Out, found, stopped, finish, at_end, run}
-use Rattle.mu_text.proofs.Complete.{reads, run_go, le_from}
+use Rattle.mu_text.specs.Writings.{Writing, Writings, leaf, apply, one, more, tokens, tokens_of, is_head, takes_arguments, Fits, FitsAll, IsTree}
+use Rattle.mu_text.specs.Parts.{Begins, Out, found, stopped}
+use Rattle.mu_text.specs.Machine.{Stack, top, given, fill, Mode, want, named, have, Next, go, done, stop, open_level, begin, close_given, close, after_name, beginning, opening, ending, step, finish, at_end, run}
+use Rattle.mu_text.proofs.Complete.{run_go, le_from}
 
 -- the tokens of the arguments before, each with its comma
 abbrev pub earlier : List Writing → List Item
@@ -85,10 +86,10 @@ fits-plug m n (given head name vs outer k) w v f =
     fits-plug m outer k (apply head name (fill vs (one w))) v.4 (v.0, v.1, fits-fill (outer - 1) vs (one w) v.3 (move n (outer - 1) w v.2 f))
 
 -- what has been read so far begins some writing
-pub alive : (m : ℕ) (mode : Mode) → Good m mode → Begins m (seen mode)
-alive m (want n k) g = (plug k some, word Plain (97 ∷ []) ∷ behind k, fits-plug m n k some g refl, tokens-plug k some)
-alive m (named head name n k) g = (plug k (leaf head name), behind k, fits-plug m n k (leaf head name) g.1 g.0, tokens-plug k (leaf head name) ∙ simp append_assoc)
-alive m (have n w k) g = (plug k w, behind k, fits-plug m n k w g.1 g.0, tokens-plug k w ∙ simp append_assoc)
+pub alive : (m : ℕ) (mode : Mode) → Good m mode → Begins (IsTree m) (seen mode)
+alive m (want n k) g = (word Plain (97 ∷ []) ∷ behind k, plug k some, (fits-plug m n k some g refl, tokens-plug k some))
+alive m (named head name n k) g = (behind k, plug k (leaf head name), (fits-plug m n k (leaf head name) g.1 g.0, tokens-plug k (leaf head name) ∙ simp append_assoc))
+alive m (have n w k) g = (behind k, plug k w, (fits-plug m n k w g.1 g.0, tokens-plug k w ∙ simp append_assoc))
 
 -- what the small answers say of the token
 pub at_head : (head : Word) (item : Item) → beginning item ≡ begins.Head head → (item ≡ word head (bytes_of item)) × (is_head head ≡ true)
@@ -157,15 +158,15 @@ step_good m (named head name n k) item g = name_good m head name n k item g.0 g.
 step_good m (have n w k) item g = close_good k w item m n g.1 g.0
 
 -- what holds of an answer to the tokens ts, after front; and the first token that is left decides it, whatever follows that
-abbrev pub Answers : ℕ → Mode → List Item → List Item → Out → Type 0
+abbrev pub Answers : ℕ → Mode → List Item → List Item → Out Writing → Type 0
 Answers m mode front ts (found w rest) =
     Fits m w × (taken : List Item) × (ts ≡ taken ++ rest) × (tokens w ≡ front ++ taken)
     × ((item : Item) (behind other : List Item) → rest ≡ item ∷ behind → run mode (taken ++ (item ∷ other)) ≡ found w (item ∷ other))
 Answers m mode front ts (stopped rest) =
-    (taken : List Item) × (ts ≡ taken ++ rest) × Begins m (front ++ taken)
+    (taken : List Item) × (ts ≡ taken ++ rest) × Begins (IsTree m) (front ++ taken)
     × ((item : Item) (behind other : List Item) → rest ≡ item ∷ behind → run mode (taken ++ (item ∷ other)) ≡ stopped (item ∷ other))
 
-finish_good : (m n : ℕ) (k : Stack) (w : Writing) (mode : Mode) → Valid m n k → Fits n w → Begins m (before k ++ tokens w) → Answers m mode (before k ++ tokens w) [] (finish k w)
+finish_good : (m n : ℕ) (k : Stack) (w : Writing) (mode : Mode) → Valid m n k → Fits n w → Begins (IsTree m) (before k ++ tokens w) → Answers m mode (before k ++ tokens w) [] (finish k w)
 finish_good m n top w mode v f b = (move n m w v f, [], refl, sym (append-nil (tokens w)), λ item behind other i. cc)
 finish_good m n (given head name vs outer k) w mode v f b = ([], refl, rw append-nil b, λ item behind other i. cc)
 
@@ -174,7 +175,7 @@ end_good m (want n k) g = ([], refl, rw append-nil (alive m (want n k) g), λ it
 end_good m (named head name n k) g = finish_good m n k (leaf head name) (named head name n k) g.1 g.0 (alive m (named head name n k) g)
 end_good m (have n w k) g = finish_good m n k w (have n w k) g.1 g.0 (alive m (have n w k) g)
 
-earlier_answer : (m : ℕ) (mode next : Mode) (item : Item) (rest : List Item) → step mode item ≡ go next → seen next ≡ seen mode ++ (item ∷ []) → (out : Out)
+earlier_answer : (m : ℕ) (mode next : Mode) (item : Item) (rest : List Item) → step mode item ≡ go next → seen next ≡ seen mode ++ (item ∷ []) → (out : Out Writing)
     → Answers m next (seen next) rest out → Answers m mode (seen mode) (item ∷ rest) out
 earlier_answer m mode next item rest e i (found w left) a = (
   a.0,
@@ -186,11 +187,11 @@ earlier_answer m mode next item rest e i (found w left) a = (
 earlier_answer m mode next item rest e i (stopped left) a = (
   item ∷ a.0,
   ap (λ l. item ∷ l) a.1,
-  subst (Begins m) (ap (λ l. l ++ a.0) i ∙ append_assoc (seen mode) (item ∷ []) a.0) a.2,
+  subst (Begins (IsTree m)) (ap (λ l. l ++ a.0) i ∙ append_assoc (seen mode) (item ∷ []) a.0) a.2,
   λ first behind other j. run_go mode item (a.0 ++ (first ∷ other)) next e ∙ a.3 first behind other j,
 )
 
-abbrev onward : Next → Item → List Item → Out
+abbrev onward : Next → Item → List Item → Out Writing
 onward x item rest = elim x [ go next ↦ run next rest | done w ↦ found w (item ∷ rest) | stop ↦ stopped (item ∷ rest) ]
 
 run_next : (mode : Mode) (item : Item) (rest : List Item) (x : Next) → step mode item ≡ x → run mode (item ∷ rest) ≡ onward x item rest
@@ -228,79 +229,3 @@ start_good m = refl
 pub stays : (n : ℕ) (w : Writing) (rest : List Item) → run (have n w top) rest ≡ found w rest
 stays n w [] = refl
 stays n w (item ∷ rest) = run_next (have n w top) item rest (done w) refl
-
--- whatever is written is read
-pub reads_it : (m : ℕ) (w : Writing) → Fits m w → run (start m) (tokens w) ≡ found w []
-reads_it m w f = sym (ap (run (start m)) (append-nil (tokens w))) ∙ reads w m top [] f tt
-
--- no two writings have the same tokens
-pub no_two : (m : ℕ) (v w : Writing) → Fits m v → Fits m w → tokens v ≡ tokens w → v ≡ w
-no_two m v w f g e =
-    let a : run (start m) (tokens v) ≡ found v [] = reads_it m v f in
-    let b : run (start m) (tokens w) ≡ found w [] = reads_it m w g in
-    let c : run (start m) (tokens v) ≡ run (start m) (tokens w) = ap (run (start m)) e in
-    cc
-
-no_rest : (m : ℕ) (front : List Item) (item : Item) → ((other : List Item) (w : Writing) → run (start m) (front ++ (item ∷ other)) ≡ found w [] → ⊥) → Begins m (front ++ (item ∷ [])) → ⊥
-no_rest m front item h b = h b.1 b.0 (sym (ap (run (start m)) (b.3 ∙ append_assoc front (item ∷ []) b.1)) ∙ reads_it m b.0 b.2)
-
-refused : (m : ℕ) (ts front rest : List Item) → ts ≡ front ++ rest → Begins m front
-    → ((item : Item) (behind : List Item) → rest ≡ item ∷ behind → Begins m (front ++ (item ∷ [])) → ⊥) → (rest ≡ [] → (w : Writing) → IsTree m ts w → ⊥)
-    → Refused m ts (length ts - length rest)
-refused m ts front rest e b h u =
-    let le : length ts ≡ length front + length rest = ap length e ∙ length-append front rest in
-    let at : length ts - length rest ≡ length front = omega arith in
-    let same : take (length front) ts ≡ front = ap (take (length front)) e ∙ take_front front rest in
-    subst (Refused m ts) (sym at) (record {
-      within = omega arith;
-      begins = subst (Begins m) (sym same) b;
-      no_further = λ l. next rest e le l h;
-      unfinished = λ i. u (none rest (omega arith));
-    })
-  where
-    take_front : (xs ys : List Item) → take (length xs) (xs ++ ys) ≡ xs
-    take_front [] ys = refl
-    take_front (x ∷ xs) ys = ap (λ l. x ∷ l) (take_front xs ys)
-
-    none : (xs : List Item) → length xs ≡ 0 → xs ≡ []
-    none [] i = refl
-    none (x ∷ xs) i = absurd (omega arith)
-
-    next : (xs : List Item) → ts ≡ front ++ xs → length ts ≡ length front + length xs → length front < length ts
-        → ((item : Item) (behind : List Item) → xs ≡ item ∷ behind → Begins m (front ++ (item ∷ [])) → ⊥) → Begins m (take (length front + 1) ts) → ⊥
-    next [] f k l g c = absurd (omega arith)
-    next (item ∷ behind) f k l g c =
-        let more : (front ++ (item ∷ [])) ++ behind ≡ ts = append_assoc front (item ∷ []) behind ∙ sym f in
-        let long : length (front ++ (item ∷ [])) ≡ length front + 1 = length-append front (item ∷ []) in
-        let same : take (length front + 1) ts ≡ front ++ (item ∷ []) =
-        (ap (λ i. take i ts) (sym long) ∙ (ap (take (length (front ++ (item ∷ [])))) (sym more) ∙ take_front (front ++ (item ∷ [])) behind)) in
-        g item behind refl (subst (Begins m) same c)
-
--- what an answer to a whole line of tokens says
-abbrev pub Outcome : ℕ → List Item → Out → Type 0
-Outcome m ts (found w []) = IsTree m ts w
-Outcome m ts (found w (item ∷ rest)) = Refused m ts (length ts - length (item ∷ rest))
-Outcome m ts (stopped rest) = Refused m ts (length ts - length rest)
-
-outcome : (m : ℕ) (ts : List Item) (out : Out) → run (start m) ts ≡ out → Answers m (start m) [] ts out → Outcome m ts out
-outcome m ts (found w []) e a = (a.0, a.3 ∙ (sym (append-nil a.1) ∙ sym a.2))
-outcome m ts (found w (item ∷ rest)) e a =
-    refused m ts (tokens w) (item ∷ rest) (a.2 ∙ ap (λ l. l ++ (item ∷ rest)) (sym a.3)) (w, [], a.0, sym (append-nil (tokens w)))
-    (λ first behind i b.
-    let same : first ≡ item = cc in
-    no_rest m (tokens w) first (λ other v j. let k : run (start m) (a.1 ++ (first ∷ other)) ≡ found w (first ∷ other) = a.4 first behind other i in let l : tokens w ≡ a.1 = a.3 in cc) b)
-    (λ i. cc)
-outcome m ts (stopped []) e a =
-    refused m ts a.0 [] a.1 a.2 (λ first behind i b. cc)
-    (λ i w t. let f : run (start m) ts ≡ found w [] = sym (ap (run (start m)) t.1) ∙ reads_it m w t.0 in cc)
-outcome m ts (stopped (item ∷ rest)) e a =
-    refused m ts a.0 (item ∷ rest) a.1 a.2
-    (λ first behind i b. no_rest m a.0 first (λ other v j. let k : run (start m) (a.0 ++ (first ∷ other)) ≡ stopped (first ∷ other) = a.3 first behind other i in cc) b)
-    (λ i. cc)
-
--- reading says of each list of tokens whether it is a writing's, and else where it is refused
-pub reads_exactly : (m : ℕ) (ts : List Item) → Outcome m ts (run (start m) ts)
-reads_exactly m ts = outcome m ts (run (start m) ts) refl (run_good ts m (start m) (start_good m))
-
-pub reads_as : (m : ℕ) (ts : List Item) (out : Out) → run (start m) ts ≡ out → Outcome m ts out
-reads_as m ts out e = subst (Outcome m ts) e (reads_exactly m ts)

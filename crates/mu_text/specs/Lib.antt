@@ -1,11 +1,17 @@
+pub mod Claims
+pub mod Excesses
 pub mod Groups
 pub mod Items
+pub mod Limits
 pub mod Machine
 pub mod Marks
 pub mod Parts
 pub mod Reading
 pub mod Reads
+pub mod Reasons
+pub mod References
 pub mod Rows
 pub mod SimpleParts
 pub mod Tokens
+pub mod Trees
 pub mod Writings

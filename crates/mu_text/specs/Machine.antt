@@ -12,6 +12,7 @@ use Rattle.mu_text.specs.declared.way.Opening.TheVariants as opens
 use Rattle.mu_text.specs.declared.way.Ending.{Ending}
 use Rattle.mu_text.specs.declared.way.Ending.TheVariants as ends
 use Rattle.mu_text.specs.Items.{Item, sort_of, bytes_of}
+use Rattle.mu_text.specs.Parts.{Out, found, stopped}
 use Rattle.mu_text.specs.Writings.{Writing, Writings, leaf, apply, one, more}
 
 -- what a tree that is wanted begins with, by its first token
@@ -97,23 +98,18 @@ step (want n k) item = begin n k (bytes_of item) (beginning item)
 step (named head name n k) item = after_name head name n k item (opening head item)
 step (have n w k) item = close k w item
 
--- what reading ends in: a writing and what follows it, or what was left where no tree goes on
-pub data Out : Type 0 where
-  found : Writing → List Item → Out
-  stopped : List Item → Out
-
 -- the tokens end, and w is handed to what waits for it
-abbrev pub finish : Stack → Writing → Out
+abbrev pub finish : Stack → Writing → Out Writing
 finish top w = found w []
 finish (given head name vs n k) w = stopped []
 
 -- the tokens end in some mode
-abbrev pub at_end : Mode → Out
+abbrev pub at_end : Mode → Out Writing
 at_end (want n k) = stopped []
 at_end (named head name n k) = finish k (leaf head name)
 at_end (have n w k) = finish k w
 
 -- all tokens are taken, from some mode on
-abbrev pub run : Mode → List Item → Out
+abbrev pub run : Mode → List Item → Out Writing
 run mode [] = at_end mode
 run mode (item ∷ rest) = elim (step mode item) [ go next ↦ run next rest | done w ↦ found w (item ∷ rest) | stop ↦ stopped (item ∷ rest) ]

@@ -104,6 +104,14 @@ Then {A} G H ts y = (x : A) × (a b : List Item) × (ts ≡ a ++ b) × G a x × 
 abbrev pub chain : {A B : Type 0} → (List Item → Out A) → (A → List Item → Out B) → List Item → Out B
 chain p q ts = p ts >>= q
 
+-- a spelling, and what is made of its value
+abbrev pub Made : {A B : Type 0} → (A → B) → (List Item → A → Type 0) → List Item → B → Type 0
+Made {A} make G ts y = (x : A) × G ts x × (y ≡ make x)
+
+-- reads a part, and makes something of its value
+abbrev pub mapped : {A B : Type 0} → (A → B) → (List Item → Out A) → List Item → Out B
+mapped make p ts = p ts >>= (λ x rest. found (make x) rest)
+
 -- a spelling in one language or in the other
 abbrev pub Or : {A : Type 0} → (List Item → A → Type 0) → (List Item → A → Type 0) → List Item → A → Type 0
 Or G H ts x = G ts x ⊎ H ts x

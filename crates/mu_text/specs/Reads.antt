@@ -7,8 +7,9 @@ use Rattle.mu_text.specs.declared.fault.Fault.TheVariants.{Stop, NoMemory}
 use Rattle.mu_text.specs.declared.operand.Operand.{Operand}
 use Rattle.mu_text.specs.declared.operand.Several.{Several}
 use Rattle.mu_text.specs.Items.{Item}
+use Rattle.mu_text.specs.Parts.{stopped}
 use Rattle.mu_text.specs.Writings.{Writing, Writings, apply, tree_of, trees_of, nodes, nodes_of, deep, deep_of, Kept, KeptAll}
-use Rattle.mu_text.specs.Machine.{Stack, Mode, want, named, have, given, stopped, run}
+use Rattle.mu_text.specs.Machine.{Stack, Mode, want, named, have, given, run}
 
 -- counts are exact up to here, past both limits
 abbrev pub capped : ℕ → ℕ

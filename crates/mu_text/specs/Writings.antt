@@ -1,5 +1,5 @@
 -- The trees of the language: how a tree may be written, and which tokens are such a writing.
-use Rattle.std.specs.Prelude.{◌≡◌, ℕ, ◌+◌, ◌-◌, ◌<◌, ◌≤◌, max, Bool, true, false, List, [], ◌∷◌, ◌++◌, length, take}
+use Rattle.std.specs.Prelude.{◌≡◌, ℕ, ◌+◌, ◌-◌, ◌<◌, ◌≤◌, max, Bool, true, false, List, [], ◌∷◌, ◌++◌}
 use Rattle.mu_tree.specs.Names.{IsName}
 use Rattle.mu_tree.specs.declared.tree.Tree.{Tree}
 use Rattle.mu_tree.specs.declared.tree.Tree.TheVariants as tree
@@ -105,14 +105,3 @@ KeptAll ws = ShortAll ws × (nodes_of ws ≤ 4096) × (deep_of ws ≤ 200)
 -- the tokens are this writing's, and it opens at most n levels
 abbrev pub IsTree : ℕ → List Item → Writing → Type 0
 IsTree n ts w = Fits n w × (tokens w ≡ ts)
-
--- the tokens of some writing begin with these
-abbrev pub Begins : ℕ → List Item → Type 0
-Begins n ts = (w : Writing) × (rest : List Item) × Fits n w × (tokens w ≡ ts ++ rest)
-
--- the first tokens begin a writing; with the one after them none begins, and where there is none after them they are no writing themselves
-pub record Refused (n : ℕ) (ts : List Item) (at : ℕ) : Type 0 where
-  pub within : at ≤ length ts
-  pub begins : Begins n (take at ts)
-  pub no_further : at < length ts → Begins n (take (at + 1) ts) → ⊥
-  pub unfinished : at ≡ length ts → (w : Writing) → IsTree n ts w → ⊥

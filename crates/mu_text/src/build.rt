@@ -9,10 +9,10 @@ use mu_tree::{Name, Tree, Trees};
 use std::alloc::{AllocError, Global};
 
 /// The most nodes of a tree that is built.
-const MOST_NODES: u64 = 4_096;
+pub const MOST_NODES: u64 = 4_096;
 
 /// The most nodes on a way down in a tree that is built.
-const MOST_DEPTH: u64 = 200;
+pub const MOST_DEPTH: u64 = 200;
 
 /// Where counts stop.
 const MOST_COUNTED: u64 = 5_000;

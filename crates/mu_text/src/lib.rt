@@ -3,6 +3,7 @@
 
 mod build;
 mod descent;
+mod excess;
 mod fault;
 mod operand;
 pub mod parts;
@@ -13,6 +14,7 @@ mod tokens;
 mod way;
 
 pub use descent::MOST_NESTING;
+pub use excess::{Excess, Measured};
 pub use fault::Fault;
 pub use operand::Operand;
 pub use reader::Reader;

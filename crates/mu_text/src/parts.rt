@@ -1,5 +1,5 @@
-//! The parts of a line that are one token, and lists of them: each is read where it is spelled, and stops at the
-//! first token with which no spelling goes on.
+//! The parts of a line: those of one token, trees, and what is made of them. Each is read where it is spelled, and stops
+//! at the first token with which no spelling goes on.
 
 ghost use Rattle.std.specs.Prelude.{◌≡◌, ◌↔◌, IsTrue, true, Some, None, IfOk, IfErr, MatchOption};
 ghost use Rattle.mu_tree.specs.Names.{is_digit as digit_test};
@@ -10,12 +10,21 @@ ghost use Rattle.mu_text.specs.Marks.{is_mark};
 ghost use Rattle.mu_text.specs.Parts.{Gives, Same, StandsEach, at_end, first_as, starts};
 ghost use Rattle.mu_text.specs.SimpleParts.{StandsName, is_number as number_test, is_word as word_test, name_of, number_from, number_of, place_of, plain_name_of, read_kind, read_kinds, read_mark, read_meta, read_name, read_names, read_place, read_plain_name, read_word};
 
+mod claims;
+mod reasons;
+mod refs;
+mod trees;
+
 use crate::fault::Fault;
 use crate::reader::Reader;
 use crate::symbol::{Mark, Sort, Word};
 use crate::tokens::{MOST_DIGITS, split, starts_positive};
+pub use claims::claim;
 use mu_tree::{Kind, Kinds, Name, NameFault, Names};
+pub use reasons::{abstraction, abstractions, reason};
+pub use refs::{reference, references};
 use std::alloc::Global;
+pub use trees::{measured_tree, tree};
 
 /// A name with these bytes; where they are past the limit of a name, some other name stands in its place.
 ///

@@ -1,12 +1,12 @@
 use Rattle.std.proofs.Common.{length}
 use Rattle.mu_text.specs.declared.symbol.Mark.TheVariants.{Comma}
-use Rattle.mu_text.specs.Parts.{Same}
+use Rattle.mu_text.specs.Parts.{Same, StandsEach, separated}
 use Rattle.mu_text.specs.SimpleParts.{read_kind}
 use Rattle.mu_text.proofs.Turns.{Turn}
 use Rattle.mu_text.proofs.parts.kinds.Given as goal
 
 abbrev pub invariant-loop-reader : goal.invariant-loop-reader
-invariant-loop-reader l = Turn Same Comma read_kind l.fn.reader l.reader l.kinds
+invariant-loop-reader l = Turn (StandsEach Same) Comma read_kind (separated Comma read_kind l.fn.reader) l.reader l.kinds
 
 abbrev pub decreases-loop-reader : goal.decreases-loop-reader
 decreases-loop-reader l = length l.reader

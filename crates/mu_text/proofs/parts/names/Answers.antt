@@ -1,4 +1,5 @@
 use Rattle.mu_text.proofs.Simple.{Exact-plain_name}
+use Rattle.mu_text.specs.declared.symbol.Mark.TheVariants.{Comma}
 use Rattle.mu_text.proofs.Turns.{fewer, start, turn}
 use Rattle.mu_text.proofs.parts.names.Goals as goal
 
@@ -9,4 +10,4 @@ pub loop-alloc-preserved : goal.loop-alloc-preserved
 loop-alloc-preserved c = turn Exact-plain_name c.loop-alloc.invariant c.sees.ensures c.loop-alloc-test.true c.skip.ensures c.in_ok-next.ensures c.in_ok-push-2.ensures.ok
 
 pub loop-alloc-smaller : goal.loop-alloc-smaller
-loop-alloc-smaller c = fewer Exact-plain_name c.loop-alloc.invariant c.sees.ensures c.loop-alloc-test.true c.skip.ensures c.in_ok-next.ensures
+loop-alloc-smaller c = fewer Comma Exact-plain_name _ _ c.sees.ensures c.loop-alloc-test.true c.skip.ensures c.in_ok-next.ensures

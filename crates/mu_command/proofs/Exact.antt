@@ -1,0 +1,160 @@
+-- Commands are read exactly.
+use Rattle.std.proofs.Common.{◌≡◌, ℕ, Bool, true, false, List, [], ◌∷◌, ◌++◌, Some, refl, ap, sym, ◌∙◌, subst, append-nil}
+use Rattle.std.specs.Prelude.{find, cond, codes}
+use Rattle.mu_text.specs.declared.symbol.Mark.{Mark}
+use Rattle.mu_text.specs.declared.symbol.Mark.TheVariants.{Arrow, Colon}
+use Rattle.mu_text.specs.Items.{Item, word, mark}
+use Rattle.mu_text.specs.declared.symbol.Word.TheVariants.{Plain}
+use Rattle.mu_text.specs.Parts.{Nothing, OneToken, End, given_back, Then, chain, token}
+use Rattle.mu_text.specs.Rows.{Values, SpellsRow}
+use Rattle.mu_text.specs.SimpleParts.{is_word, name_of, has_bytes, AnyName, GivenWord, read_word, read_name}
+use Rattle.mu_text.specs.Groups.{Optional}
+use Rattle.mu_text.proofs.Exact.{Exact, Exact-same, Exact-chain, Exact-pure, Exact-token}
+use Rattle.mu_text.proofs.Simple.{Any, Exact-mark, Exact-name, Exact-plain_name, Exact-kind, Exact-word, from_bytes, is_own_word}
+use Rattle.mu_text.proofs.Choice.{Passes, Fails}
+use Rattle.mu_text.proofs.Complete.{Follows}
+use Rattle.mu_text.proofs.Trees.{Exact-tree}
+use Rattle.mu_text.proofs.Claims.{NoClaim, Exact-claim}
+use Rattle.mu_text.proofs.Reasons.{NoReason, Exact-reason}
+use Rattle.mu_text.proofs.Groups.{NoOpen, Exact-argument_kinds, Exact-optional}
+use Rattle.mu_text.proofs.Rows as rows
+use Rattle.mu_command.specs.declared.form.Form.{Form}
+use Rattle.mu_command.specs.declared.form.Form.TheVariants.{Theory, Constant, Axiom, Rule, Proof, Line, Cite, Status}
+use Rattle.mu_command.specs.Forms.{keyword, forms, form_of, FormWord, read_form}
+use Rattle.mu_command.specs.Parts.{Part, name, plain, given, sign, kind, arguments, before, tree, claim, reason, Value, IsBefore, SpellsPart, read_before, read_part}
+use Rattle.mu_command.specs.Grammar.{row, Spelled, Written, Spells, read_parts, read_command}
+
+-- what is found passes the test
+found_passes : {A : Type 0} (test : A → Bool) (xs : List A) (x : A) → find test xs ≡ Some x → test x ≡ true
+found_passes test [] x e = cc
+found_passes test (y ∷ xs) x e = by_first (test y) refl e (found_passes test xs x)
+  where
+    by_first : (b : Bool) → test y ≡ b → cond b (Some y) (find test xs) ≡ Some x → (find test xs ≡ Some x → test x ≡ true) → test x ≡ true
+    by_first true i e later = let same : y ≡ x = cc in subst (λ z. test z ≡ true) same i
+    by_first false i e later = later e
+
+-- the word of a form is its own alone
+own_form : (form : Form) → find (λ other. has_bytes (keyword other) (Some (keyword form))) forms ≡ Some form
+own_form Theory = refl
+own_form Constant = refl
+own_form Axiom = refl
+own_form Rule = refl
+own_form Proof = refl
+own_form Line = refl
+own_form Cite = refl
+own_form Status = refl
+
+to_word : (ts : List Item) (form : Form) → OneToken form_of ts form → FormWord ts form
+to_word ts form g = (g.0, g.1, from_bytes (keyword form) (name_of g.0) (found_passes (λ other. is_word (keyword other) g.0) forms form g.2))
+
+from_word : (ts : List Item) (form : Form) → FormWord ts form → OneToken form_of ts form
+from_word ts form g = (g.0, g.1, ap (λ o. find (λ other. has_bytes (keyword other) o) forms) g.2 ∙ own_form form)
+
+pub Exact-form : Exact read_form FormWord Any
+unfolding read_form
+Exact-form = Exact-same (token form_of) (OneToken form_of) FormWord Any to_word from_word (Exact-token form_of (word Plain (keyword Theory)) Theory refl Any)
+
+-- whether the token is the word `before`
+abbrev is_before_word : Item → Bool
+is_before_word = is_word (codes "before")
+
+exact_is_before : Exact (chain (read_word (codes "before")) (λ _ l. read_name l)) IsBefore Any
+exact_is_before = Exact-chain (read_word (codes "before")) (λ _ l. read_name l) (GivenWord (codes "before")) (λ _ l y. AnyName l y) Any Any (Exact-word (codes "before")) (λ _. Exact-name) (λ u b y rest h s. tt)
+
+before_passes : (ts : List Item) (x : List ℕ) → IsBefore ts x → Passes is_before_word ts
+before_passes ts x g =
+    subst (Passes is_before_word) (sym (g.3 ∙ ap (λ l. l ++ g.2) g.4.1)) (is_own_word (codes "before") g.4.0 g.4.2)
+
+abbrev pub NoBefore : List Item → Type 0
+NoBefore rest = Any rest × Fails is_before_word rest
+
+exact_before : Exact read_before (Optional IsBefore) NoBefore
+unfolding read_before
+exact_before = Exact-optional is_before_word (chain (read_word (codes "before")) (λ _ l. read_name l)) IsBefore Any exact_is_before before_passes
+
+-- what may follow a part
+abbrev pub Stops : Part → List Item → Type 0
+Stops arguments ts = NoOpen ts
+Stops before ts = NoBefore ts
+Stops tree ts = Follows ts
+Stops claim ts = NoClaim ts
+Stops reason ts = NoReason ts
+Stops _ ts = Any ts
+
+exact_part : (part : Part) → Exact (read_part part) (SpellsPart part) (Stops part)
+exact_part name = Exact-name
+exact_part plain = Exact-plain_name
+exact_part (given text) = Exact-word text
+exact_part (sign m) = Exact-mark m
+exact_part kind = Exact-kind
+exact_part arguments = Exact-argument_kinds
+exact_part before = exact_before
+exact_part tree = Exact-tree
+exact_part claim = Exact-claim
+exact_part reason = Exact-reason
+
+-- a mark follows
+mark_follows : (S : List Item → Type 0) (m : Mark) (parts : List Part) → ((rest : List Item) → S (mark m ∷ rest)) → (ts : List Item) (v : Values Value (sign m ∷ parts)) → SpellsRow Value SpellsPart (sign m ∷ parts) ts v → S ts
+mark_follows S m parts stops ts v g = subst S (sym (g.2 ∙ ap (λ l. l ++ g.1) g.3)) (stops g.1)
+
+-- nothing follows
+none_follows : (S : List Item → Type 0) → S [] → (ts : List Item) (v : Values Value []) → SpellsRow Value SpellsPart [] ts v → S ts
+none_follows S stops ts v g = subst S (sym g) stops
+
+-- in each form what follows a part lets it stop there
+linked : (form : Form) → rows.Linked Value read_part SpellsPart Stops (row form)
+linked Theory = (λ ts v g. tt, tt)
+linked Constant = (λ ts v g. tt, (λ ts v g. tt, (mark_follows NoOpen Arrow (kind ∷ []) (λ rest. refl), (λ ts v g. tt, (λ ts v g. tt, tt)))))
+linked Axiom = (λ ts v g. tt, (λ ts v g. tt, (λ ts v g. tt, (none_follows NoClaim (tt, tt), tt))))
+linked Rule = (λ ts v g. tt, (λ ts v g. tt, (λ ts v g. tt, (none_follows NoClaim (tt, tt), tt))))
+linked Proof = (λ ts v g. tt, (λ ts v g. tt, tt))
+linked Line = (
+  λ ts v g. tt,
+  (
+    λ ts v g. tt,
+    (
+      λ ts v g. tt,
+      (
+        λ ts v g. tt,
+        (
+          λ ts v g. tt,
+          (mark_follows NoBefore Colon (tree ∷ []) (λ rest. (tt, refl)), (λ ts v g. tt, (none_follows Follows tt, tt))),
+        ),
+      ),
+    ),
+  ),
+)
+linked Cite = (λ ts v g. tt, (λ ts v g. tt, (λ ts v g. tt, (λ ts v g. tt, (none_follows NoReason (((tt, tt), tt), ((tt, tt), tt)), tt)))))
+linked Status = (λ ts v g. tt, tt)
+
+abbrev pub SpellsParts : (form : Form) → List Item → Spelled form → Type 0
+SpellsParts form ts v = SpellsRow Value SpellsPart (row form) ts v
+
+exact_parts : (form : Form) → Exact (read_parts form) (SpellsParts form) End
+unfolding read_parts
+exact_parts form = rows.Exact-row Value read_part SpellsPart Stops exact_part (row form) (linked form)
+
+abbrev Behind : (form : Form) → List Item → Written → Type 0
+Behind form = Then (SpellsParts form) (λ v. Nothing (form, v))
+
+exact_behind : (form : Form) → Exact (chain (read_parts form) (λ v. given_back (form, v))) (Behind form) End
+exact_behind form =
+    Exact-chain (read_parts form) (λ v. given_back (form, v)) (SpellsParts form) (λ v. Nothing (form, v)) End End (exact_parts form) (λ v. Exact-pure (form, v) End) (λ v b w rest g e. both_empty b rest g.0 e)
+  where
+    both_empty : (a b : List Item) → a ≡ [] → b ≡ [] → a ++ b ≡ []
+    both_empty a b e i = rw (e, i) refl
+
+to_written : (ts : List Item) (w : Written) → Then FormWord Behind ts w → Spells ts w
+to_written ts w g =
+    let rest = g.5 in
+    let same : g.2 ≡ rest.1 = rest.3 ∙ (ap (λ l. rest.1 ++ l) rest.5.0 ∙ append-nil rest.1) in
+    subst (Spells ts) (sym rest.5.1) (g.1, g.2, g.3, g.4, subst (λ (l : List Item). SpellsParts g.0 l rest.0) (sym same) rest.4)
+
+from_written : (ts : List Item) (w : Written) → Spells ts w → Then FormWord Behind ts w
+from_written ts w g = (w.0, g.0, g.1, g.2, g.3, (w.1, g.1, [], sym (append-nil g.1), g.4, (refl, refl)))
+
+pub Exact-command : Exact read_command Spells End
+unfolding read_command
+Exact-command =
+    Exact-same read_command (Then FormWord Behind) Spells End to_written from_written
+    (Exact-chain read_form (λ form. chain (read_parts form) (λ v. given_back (form, v))) FormWord Behind Any End Exact-form exact_behind (λ form b w rest g e. tt))

@@ -1,0 +1,4 @@
+pub mod Exact
+pub mod Forms
+pub mod Lines
+pub mod Meant

@@ -1,0 +1,98 @@
+-- Which tokens are those of a command, and which command that is.
+use Rattle.std.specs.Prelude.{◌≡◌, List, [], ◌∷◌, ◌++◌, codes}
+use Rattle.mu_text.specs.declared.excess.Excess.{Excess}
+use Rattle.mu_text.specs.declared.excess.Measured.{Measured}
+use Rattle.mu_text.specs.declared.symbol.Mark.TheVariants.{Arrow, Colon}
+use Rattle.mu_text.specs.Items.{Item}
+use Rattle.mu_text.specs.Parts.{Out, found, ◌>>=◌}
+use Rattle.mu_text.specs.Rows.{Values, SpellsRow, read_row, Makes}
+use Rattle.mu_text.specs.Writings.{Writing}
+use Rattle.mu_text.specs.Excesses.{no_excess}
+use Rattle.mu_command.specs.declared.command.Command.{Command}
+use Rattle.mu_command.specs.declared.command.Command.TheVariants as command
+use Rattle.mu_command.specs.declared.form.Form.{Form}
+use Rattle.mu_command.specs.declared.form.Form.TheVariants.{Theory, Constant, Axiom, Rule, Proof, Line, Cite, Status}
+use Rattle.mu_command.specs.Forms.{FormWord, read_form}
+use Rattle.mu_command.specs.Parts.{Part, name, plain, given, sign, kind, arguments, before, tree, claim, reason, Value, SpellsPart, read_part, Meant, meant_part, trees_in, Kept, StandsPart, excess_in, value_in, either_excess}
+
+-- the parts that follow the word of a form
+abbrev pub row : Form → List Part
+row Theory = plain ∷ []
+row Constant = plain ∷ plain ∷ arguments ∷ sign Arrow ∷ kind ∷ []
+row Axiom = plain ∷ plain ∷ sign Colon ∷ claim ∷ []
+row Rule = plain ∷ plain ∷ sign Colon ∷ claim ∷ []
+row Proof = name ∷ plain ∷ []
+row Line = name ∷ plain ∷ plain ∷ given (codes "in") ∷ name ∷ before ∷ sign Colon ∷ tree ∷ []
+row Cite = name ∷ plain ∷ plain ∷ sign Colon ∷ reason ∷ []
+row Status = name ∷ []
+
+-- the command of a form, by what is meant by its parts
+abbrev pub make : (form : Form) → Values Meant (row form) → Command
+make Theory v = command.Theory v.0
+make Constant v = command.Constant v.0 v.1.0 v.1.1.0 v.1.1.1.1.0
+make Axiom v = command.Axiom v.0 v.1.0 v.1.1.1.0
+make Rule v = command.Rule v.0 v.1.0 v.1.1.1.0
+make Proof v = command.Proof v.0 v.1.0
+make Line v = command.Line v.0 v.1.0 v.1.1.0 v.1.1.1.1.0 v.1.1.1.1.1.0 v.1.1.1.1.1.1.1.0
+make Cite v = command.Cite v.0 v.1.0 v.1.1.0 v.1.1.1.1.0
+make Status v = command.Status v.0
+
+-- the values of the parts of a form, as they are spelled
+abbrev pub Spelled : Form → Type 0
+Spelled form = Values Value (row form)
+
+-- a command as it is written: its form and what its parts are spelled for
+abbrev pub Written : Type 0
+Written = (form : Form) × Spelled form
+
+-- the tokens are those of the written command: the word of its form, and each part behind the one before it
+abbrev pub Spells : List Item → Written → Type 0
+Spells ts w = (a b : List Item) × (ts ≡ a ++ b) × FormWord a w.0 × SpellsRow Value SpellsPart (row w.0) b w.1
+
+-- what is meant by the values of some parts
+abbrev pub meant : (parts : List Part) → Values Value parts → Values Meant parts
+meant [] v = tt
+meant (part ∷ parts) v = (meant_part part v.0, meant parts v.1)
+
+-- the command that is written
+abbrev pub command_of : Written → Command
+command_of w = make w.0 (meant (row w.0) w.1)
+
+-- the trees in the values of some parts
+abbrev pub trees_of : (parts : List Part) → Values Value parts → List Writing
+trees_of [] v = []
+trees_of (part ∷ parts) v = trees_in part v.0 ++ trees_of parts v.1
+
+-- the trees of a written command
+abbrev pub trees_of_command : Written → List Writing
+trees_of_command w = trees_of (row w.0) w.1
+
+-- reads the parts of a form
+unfoldable pub read_parts : (form : Form) → List Item → Out (Spelled form)
+read_parts form ts = read_row Value read_part (row form) ts
+
+-- reads a command
+unfoldable pub read_command : List Item → Out Written
+read_command ts = read_form ts >>= (λ form behind. read_parts form behind >>= (λ v rest. found (form, v) rest))
+
+-- what is kept of some parts, without limits
+abbrev pub values : (parts : List Part) → Values Kept parts → Values Meant parts
+values [] k = tt
+values (part ∷ parts) k = (value_in part k.0, values parts k.1)
+
+-- the limits that what is kept of some parts passes
+abbrev pub excesses : (parts : List Part) → Values Kept parts → Excess
+excesses [] k = no_excess
+excesses (part ∷ parts) k = either_excess (excess_in part k.0) (excesses parts k.1)
+
+-- the command of a form that is made of what is kept of its parts, with the limits that they pass
+abbrev pub make_kept : (form : Form) → Values Kept (row form) → Measured Command
+make_kept form k = record { value = make form (values (row form) k); excess = excesses (row form) k }
+
+-- the command stands for the spelled parts of a form
+abbrev pub StandsForm : (form : Form) → Spelled form → Measured Command → Type 0
+StandsForm form v m = Makes Value Kept StandsPart (row form) (make_kept form) v m
+
+-- the command stands for the written one
+abbrev pub StandsCommand : Written → Measured Command → Type 0
+StandsCommand w m = StandsForm w.0 w.1 m

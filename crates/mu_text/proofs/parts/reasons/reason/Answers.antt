@@ -1,0 +1,15 @@
+use Rattle.std.specs.Prelude.{codes, Ok}
+use Rattle.mu_text.specs.Parts.{chain, mapped}
+use Rattle.mu_text.specs.SimpleParts.{read_word, read_name}
+use Rattle.mu_text.specs.Reasons.{by_rule, read_from, read_with, read_reason, StandsReason}
+use Rattle.mu_text.proofs.Given.{and_then, kept_made}
+use Rattle.mu_text.proofs.ReasonValues.{reason_stands}
+use Rattle.mu_text.proofs.parts.reasons.reason.Goals as goal
+
+pub returns : goal.returns
+unfolding read_reason
+returns c =
+    and_then StandsReason (read_word (codes "rule")) (λ _. chain read_name (λ name. chain read_from (λ refs. mapped (by_rule name refs) read_with))) _ (Ok _) _ c.in_ok-word.ensures
+    (λ u e. and_then StandsReason read_name (λ name. chain read_from (λ refs. mapped (by_rule name refs) read_with)) _ (Ok _) _ c.in_ok-rule.ensures
+    (λ name s. and_then StandsReason read_from (λ refs. mapped (by_rule name refs) read_with) _ (Ok _) _ c.in_ok-refs.ensures
+    (λ refs r. kept_made (by_rule name refs) read_with _ c.in_ok-inst.ensures (λ inst a. reason_stands name refs inst _ _ _ s r a))))

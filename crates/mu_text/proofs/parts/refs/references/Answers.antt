@@ -1,0 +1,13 @@
+use Rattle.mu_text.proofs.References.{Exact-reference}
+use Rattle.mu_text.specs.declared.symbol.Mark.TheVariants.{Comma}
+use Rattle.mu_text.proofs.Turns.{fewer, start, turn}
+use Rattle.mu_text.proofs.parts.refs.references.Goals as goal
+
+pub loop-alloc-init : goal.loop-alloc-init
+loop-alloc-init c = start Exact-reference c.in_ok-first.ensures c.new-refs.ensures c.in_ok-push.ensures.ok
+
+pub loop-alloc-preserved : goal.loop-alloc-preserved
+loop-alloc-preserved c = turn Exact-reference c.loop-alloc.invariant c.sees.ensures c.loop-alloc-test.true c.skip.ensures c.in_ok-next.ensures c.in_ok-push-2.ensures.ok
+
+pub loop-alloc-smaller : goal.loop-alloc-smaller
+loop-alloc-smaller c = fewer Comma Exact-reference _ _ c.sees.ensures c.loop-alloc-test.true c.skip.ensures c.in_ok-next.ensures

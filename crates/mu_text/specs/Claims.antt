@@ -1,0 +1,107 @@
+-- Claims: how they are spelled, and what reads them.
+use Rattle.std.specs.Prelude.{◌≡◌, Bool, ◌||◌, List, [], ◌∷◌, ◌++◌, map}
+use Rattle.std.specs.List.{AllByRecursion}
+use Rattle.mu_tree.specs.declared.claim.Hyp.{Hyp}
+use Rattle.mu_tree.specs.declared.claim.Hyp.TheVariants as hyp
+use Rattle.mu_tree.specs.declared.claim.Claim.{Claim}
+use Rattle.mu_text.specs.declared.excess.Measured.{Measured}
+use Rattle.mu_text.specs.declared.symbol.Mark.TheVariants.{Semicolon, Turnstile}
+use Rattle.mu_text.specs.Items.{Item, mark}
+use Rattle.mu_text.specs.Marks.{is_mark}
+use Rattle.mu_text.specs.Parts.{Out, chain, either, given_back, mapped, Separated, read_more}
+use Rattle.mu_text.specs.SimpleParts.{read_mark}
+use Rattle.mu_text.specs.Writings.{Writing, tree_of, Short}
+use Rattle.mu_text.specs.Trees.{OneTree, read_tree}
+use Rattle.mu_text.specs.Excesses.{in_each, IsMeasured, MeasuredAll}
+
+-- a hypothesis as it is written: a tree
+pub data Hypothesis : Type 0 where
+  plain : Writing → Hypothesis
+
+-- a claim as it is written
+pub record Sentence : Type 0 where
+  pub hyps : List Hypothesis
+  pub conclusion : Writing
+
+-- a hypothesis is spelled as its tree
+abbrev pub IsHypothesis : List Item → Hypothesis → Type 0
+IsHypothesis ts (plain w) = OneTree ts w
+
+-- a conclusion alone; or hypotheses with semicolons between them, a turnstile, and the conclusion
+abbrev pub Claims : List Item → List Hypothesis → Writing → Type 0
+Claims ts [] conclusion = OneTree ts conclusion
+Claims ts (h ∷ hs) conclusion = (a b : List Item) × (ts ≡ a ++ (mark Turnstile ∷ b)) × Separated Semicolon IsHypothesis a (h ∷ hs) × OneTree b conclusion
+
+-- a claim
+abbrev pub IsClaim : List Item → Sentence → Type 0
+IsClaim ts x = Claims ts x.hyps x.conclusion
+
+-- the hypothesis that is meant
+abbrev pub hyp_of : Hypothesis → Hyp
+hyp_of (plain w) = hyp.Plain (tree_of w)
+
+-- the trees in a hypothesis
+abbrev pub trees_in_hypothesis : Hypothesis → List Writing
+trees_in_hypothesis (plain w) = w ∷ []
+
+-- its names are within the limit
+abbrev pub WithinHypothesis : Hypothesis → Type 0
+WithinHypothesis (plain w) = Short w
+
+-- the claim that is meant
+abbrev pub claim_of : Sentence → Claim
+claim_of x = record { hyps = map hyp_of x.hyps; conclusion = tree_of x.conclusion }
+
+-- the trees in a claim
+abbrev pub trees_in_claim : Sentence → List Writing
+trees_in_claim x = in_each trees_in_hypothesis x.hyps ++ (x.conclusion ∷ [])
+
+-- its names are within the limit
+abbrev pub WithinClaim : Sentence → Type 0
+WithinClaim x = AllByRecursion WithinHypothesis x.hyps × Short x.conclusion
+
+-- a hypothesis of the code that is of the sort of the spelled one
+abbrev pub SameSort : Hypothesis → Hyp → Type 0
+SameSort (plain w) (hyp.Plain tree) = Unit {0}
+SameSort _ _ = ⊥
+
+-- a hypothesis that was read, measured
+pub record StandsHypothesis (h : Hypothesis) (m : Measured Hyp) : Type 0 where
+  pub measured : IsMeasured trees_in_hypothesis WithinHypothesis hyp_of h m
+  pub same_sort : SameSort h m.value
+
+-- hypotheses that were read, measured together
+abbrev pub StandsHypotheses : List Hypothesis → Measured (List Hyp) → Type 0
+StandsHypotheses hs m = MeasuredAll trees_in_hypothesis WithinHypothesis hyp_of hs m
+
+-- a claim that was read, measured
+abbrev pub StandsClaim : Sentence → Measured Claim → Type 0
+StandsClaim x m = IsMeasured trees_in_claim WithinClaim claim_of x m
+
+-- whether a claim goes on with the token behind its first tree
+abbrev pub goes_on : Item → Bool
+goes_on T = is_mark Semicolon T || is_mark Turnstile T
+
+-- the claim with these hypotheses
+abbrev pub concluding : List Hypothesis → Writing → Sentence
+concluding hs conclusion = record { hyps = hs; conclusion = conclusion }
+
+-- reads a hypothesis
+unfoldable pub read_hypothesis : List Item → Out Hypothesis
+read_hypothesis ts = mapped plain read_tree ts
+
+-- reads the hypotheses behind the first one
+abbrev pub read_hypotheses : Hypothesis → List Item → Out (List Hypothesis)
+read_hypotheses h ts = mapped (λ hs. h ∷ hs) (read_more Semicolon read_hypothesis) ts
+
+-- reads what follows the first hypothesis
+abbrev pub read_concluded : Hypothesis → List Item → Out Sentence
+read_concluded h ts = chain (read_hypotheses h) (λ hs. chain (read_mark Turnstile) (λ _. mapped (concluding hs) read_tree)) ts
+
+-- reads what follows the first hypothesis, which is the conclusion where nothing does
+abbrev pub read_after : Hypothesis → List Item → Out Sentence
+read_after (plain w) ts = either goes_on (read_concluded (plain w)) (given_back (concluding [] w)) ts
+
+-- reads a claim
+unfoldable pub read_claim : List Item → Out Sentence
+read_claim ts = chain read_hypothesis read_after ts
