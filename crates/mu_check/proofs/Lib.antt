@@ -1,0 +1,5 @@
+pub mod CheckedEquations
+pub mod CitationEquations
+pub mod Keeping
+pub mod SameLemmas
+pub mod UnfoldedEquations

@@ -1,0 +1,36 @@
+-- What a proof cites.
+use Rattle.std.specs.Prelude.{ℕ, List, [], ◌∷◌, Option, Some, None}
+use Rattle.std.specs.List.{flat_map}
+use Rattle.mu_tree.specs.declared.why.Why.{Why}
+use Rattle.mu_tree.specs.declared.why.Why.TheVariants as why
+use Rattle.mu_proof.specs.declared.item.Item.{Item}
+use Rattle.mu_proof.specs.declared.item.Item.TheOpen.{Item-F, Line, Block}
+use Rattle.mu_proof.specs.declared.item.Item.TheFolds.{fold-Item}
+use Rattle.mu_check.specs.declared.citing.Cited.{Cited}
+use Rattle.mu_check.specs.declared.citing.Cited.TheVariants as cited
+
+-- the morphism that translates a rule, where one does
+abbrev pub morphism_cited : Option (List ℕ) → List Cited
+morphism_cited None = []
+morphism_cited (Some m) = cited.Morphism m ∷ []
+
+-- what a justification cites
+abbrev pub cited_by : Option Why → List Cited
+cited_by None = []
+cited_by (Some (why.Rule x via refs given)) = cited.Rule x ∷ morphism_cited via
+cited_by (Some (why.Hypothesis n terms refs)) = []
+cited_by (Some (why.Definition c on)) = []
+cited_by (Some (why.Same on)) = []
+
+-- what one item cites, with what the items in it cite
+abbrev pub cites_step : Item-F (List Cited) → List Cited
+cites_step (Line l t why) = cited_by why
+cites_step (Block l vars trees inner) = flat_map (λ each. each) inner
+
+-- what an item cites
+unfoldable pub item_cites : Item → List Cited
+item_cites = fold-Item (List Cited) cites_step
+
+-- what some items cite, in their order, each as often as it is cited
+abbrev pub cites : List Item → List Cited
+cites items = flat_map item_cites items

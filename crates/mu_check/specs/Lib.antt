@@ -1,0 +1,13 @@
+pub mod Alone
+pub mod Blocks
+pub mod Causes
+pub mod Citations
+pub mod Definitions
+pub mod Environments
+pub mod Facts
+pub mod Hypotheses
+pub mod Instances
+pub mod Justifications
+pub mod Same
+pub mod Unfolded
+pub mod Verdicts

@@ -1,0 +1,28 @@
+//! The check of a proof: its verdict, with the cause where it doesn't hold, and what it cites.
+//!
+//! A line may refer to what stands before it in its own block or in an enclosing one, to the assumptions of the
+//! blocks around it, and to the hypotheses of the rule that is proved. What a reference gives is a `Fact`: a nameless
+//! tree or a sequent of nameless trees, entered once, where it stands. The `Environment` of an item has all facts
+//! that it may cite, so what is not found there is not accessible.
+#![tactic(auto)]
+
+mod allowed;
+mod blocking;
+mod cause;
+mod checking;
+mod citing;
+mod defining;
+mod delta;
+mod entering;
+mod environment;
+mod fact;
+mod hypothesizing;
+mod instancing;
+mod justifying;
+
+pub use cause::{Cause, Fault, Verdict};
+pub use checking::{check_items, check_proof};
+pub use citing::{Citations, Cited, cites};
+
+#[cfg(test)]
+mod tests;
