@@ -1,6 +1,6 @@
 -- Finite maps by name, one name at a time.
-use Rattle.std.proofs.Common.{◌≡◌, ◌⊎◌, inl, inr, refl, sym, ap, subst, ◌∙◌, ℕ, Bool, true, false, cond, List, Some, None}
-use Rattle.std.specs.Prelude.{Option, is_some}
+use Rattle.std.proofs.Common.{◌≡◌, ◌⊎◌, inl, inr, sym, ap, subst, ◌∙◌, ℕ, true, false, cond, List, Some}
+use Rattle.std.specs.Prelude.{is_some}
 use Rattle.std.specs.Ordering.{nat_cmp, eq_by_cmp, is_eq}
 use Rattle.std.specs.Cmp.{tied_itself}
 use Rattle.std.specs.Cmp.Lexicographic.{slice_cmp, nat_list_cmp_total}
@@ -48,3 +48,17 @@ module _ {V : Type 0} (m : MapOf V) (k : List ℕ) (v : V) where
     | inl e ↦ ap is_some (ap (map.get (map.insert m k v)) (sym e) ∙ get-insert_here)
     | inr n ↦ ap is_some (get-insert_other q n) ∙ is
   ]
+
+-- a second value at a name replaces the first
+pub insert_twice : {V : Type 0} (m : MapOf V) (k : List ℕ) (v w : V) → map.insert (map.insert m k v) k w ≡ map.insert m k w
+insert_twice m k v w = map.same_map nat_list_cmp_total exact_bytes _ _ (λ q. elim (same_name k q) [
+  | inl e ↦ ap (map.get (map.insert (map.insert m k v) k w)) (sym e) ∙ get-insert_here (map.insert m k v) k w ∙ sym (get-insert_here m k w) ∙ ap (map.get (map.insert m k w)) e
+  | inr n ↦ get-insert_other (map.insert m k v) k w q n ∙ get-insert_other m k v q n ∙ sym (get-insert_other m k w q n)
+])
+
+-- the value that a name has already changes nothing
+pub insert_got : {V : Type 0} (m : MapOf V) (k : List ℕ) (v : V) → map.get m k ≡ Some v → map.insert m k v ≡ m
+insert_got m k v got = map.same_map nat_list_cmp_total exact_bytes _ _ (λ q. elim (same_name k q) [
+  | inl e ↦ ap (map.get (map.insert m k v)) (sym e) ∙ get-insert_here m k v ∙ sym got ∙ ap (map.get m) e
+  | inr n ↦ get-insert_other m k v q n
+])

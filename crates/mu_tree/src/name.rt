@@ -146,7 +146,8 @@ fn is_name(text: &[u8]) -> bool
     are_segments(text) && count_segments(text) <= MOST_SEGMENTS
 }
 
-fn is_short(text: &[u8]) -> bool
+/// Whether no segment of the text, its parts between dots, has more bytes than a name may have.
+pub fn is_short(text: &[u8]) -> bool
     ensures { result ≡ short_test text.now }
 {
     text.split(|byte| *byte == b'.')

@@ -44,6 +44,13 @@ impl<T> Sequence<T> {
         Sequence { items }
     }
 
+    /// Gives the items as a `Vec`, without new memory.
+    pub fn into_vec(self) -> Vec<T>
+        ensures { result.items ≡ self }
+    {
+        self.items
+    }
+
     /// How many items the list has.
     pub fn len(&self) -> usize
         ensures { result ≡ length self.now }

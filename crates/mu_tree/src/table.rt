@@ -1,12 +1,15 @@
-ghost use Rattle.std.specs.Prelude.{◌≡◌, OnOk, OnErr};
-ghost use Rattle.std.specs.Option.{option_copied};
-ghost use Rattle.std.specs.FinMap as map;
+ghost use Rattle.std.specs.Prelude.{◌≡◌, map, true, false, IfOk, OnOk, OnErr};
+ghost use Rattle.std.specs.Option.{option_copied, unwrap_or};
+ghost use Rattle.std.specs.FinMap as finite;
+ghost use Rattle.std.specs.Map.Iter.{deref_pair};
 
 use crate::memory::NoMemory;
-use crate::name::Name;
+use crate::name::{Name, Names};
+use crate::sequence::Sequence;
 use std::alloc::Global;
 use std::collections::BTreeMap;
 use std::marker::Model;
+use std::mem;
 
 /// A map from names to values. Contracts see the finite map, whose keys are in the byte order of names.
 #[derive(Drop)]
@@ -30,7 +33,7 @@ impl<V> Model for Table<V> {
 impl<V> Table<V> {
     /// An empty map, which takes no memory yet.
     pub fn new(alloc: Global) -> Table<V>
-        ensures { result ≡ map.empty }
+        ensures { result ≡ finite.empty }
     {
         Table {
             entries: BTreeMap::new(alloc),
@@ -39,16 +42,61 @@ impl<V> Table<V> {
 
     /// The value at a name, none exactly where the map has no such name.
     pub fn get(&self, name: &Name) -> Option<&V>
-        ensures { option_copied result ≡ map.get self.now name.now }
+        ensures { option_copied result ≡ finite.get self.now name.now }
     {
         self.entries.get(name)
     }
 
     /// Whether the map has a value at a name.
     pub fn has(&self, name: &Name) -> bool
-        ensures { result ≡ map.contains_key self.now name.now }
+        ensures { result ≡ finite.contains_key self.now name.now }
     {
         self.get(name).is_some()
+    }
+
+    /// The names of the map, in byte order.
+    ///
+    /// # Errors
+    ///
+    /// `NoMemory`.
+    pub fn names(&self, alloc: Global) -> Result<Names, NoMemory>
+        ensures { IfOk result (λ names. names ≡ finite.keys self.now) }
+    {
+        let mut names = Sequence::new(alloc);
+        for name in self.entries.keys() {
+            names.push(name.copy(alloc)?)?;
+        }
+        Ok(names)
+    }
+
+    /// The names of the map in byte order, each with its value.
+    ///
+    /// # Errors
+    ///
+    /// `NoMemory`.
+    pub fn entries(&self, alloc: Global) -> Result<Vec<(&Name, &V)>, NoMemory>
+        ensures { IfOk result (λ entries. map deref_pair entries.items ≡ finite.entries self.now) }
+    {
+        let mut entries = Vec::new(alloc);
+        for entry in self.entries.iter() {
+            entries.push(entry)?;
+        }
+        Ok(entries)
+    }
+
+    /// Exchanges the value at a name for another one, where the map has such a name, and says whether it has. It takes
+    /// no memory, so that a value can be taken out, changed and put back.
+    pub fn swap(&mut self, name: &Name, value: &mut V) -> bool
+        ensures found { result ≡ finite.contains_key self.old name.now }
+        ensures value { value.new ≡ unwrap_or (finite.get self.old name.now) value.old }
+        ensures there { result ≡ true → self.new ≡ finite.insert self.old name.now value.old }
+        ensures none { result ≡ false → self.new ≡ self.old }
+    {
+        let Some(there) = self.entries.get_mut(name) else {
+            return false;
+        };
+        mem::swap(there, value);
+        true
     }
 }
 
@@ -59,7 +107,7 @@ impl<V: Drop> Table<V> {
     ///
     /// `NoMemory` leaves the map as it was.
     pub fn put(&mut self, name: Name, value: V) -> Result<(), NoMemory>
-        ensures ok { OnOk result (self.new ≡ map.insert self.old name value) }
+        ensures ok { OnOk result (self.new ≡ finite.insert self.old name value) }
         ensures err { OnErr result (self.new ≡ self.old) }
     {
         match self.entries.insert(name, value) {
@@ -92,7 +140,7 @@ impl Model for NameSet {
 impl NameSet {
     /// An empty set, which takes no memory yet.
     pub fn new(alloc: Global) -> NameSet
-        ensures { result ≡ map.empty }
+        ensures { result ≡ finite.empty }
     {
         NameSet {
             marks: Table::new(alloc),
@@ -101,7 +149,7 @@ impl NameSet {
 
     /// Whether the name is in the set.
     pub fn has(&self, name: &Name) -> bool
-        ensures { result ≡ map.contains_key self.now name.now }
+        ensures { result ≡ finite.contains_key self.now name.now }
     {
         self.marks.has(name)
     }
@@ -112,7 +160,7 @@ impl NameSet {
     ///
     /// `NoMemory` leaves the set as it was.
     pub fn add(&mut self, name: Name) -> Result<(), NoMemory>
-        ensures ok { OnOk result (self.new ≡ map.insert self.old name tt) }
+        ensures ok { OnOk result (self.new ≡ finite.insert self.old name tt) }
         ensures err { OnErr result (self.new ≡ self.old) }
     {
         self.marks.put(name, ())
@@ -133,6 +181,15 @@ mod tests {
         table.put(name.copy(alloc)?, 1u8)?;
         table.put(name.copy(alloc)?, 2u8)?;
         assert!(rt; table.get(&name).copied() == Some(2));
+        let mut other = 3u8;
+        assert!(rt; table.swap(&name, &mut other));
+        assert!(rt; table.get(&name).copied() == Some(3));
+        assert!(rt; other == 2);
+        assert!(rt; !table.swap(&Name::read(alloc, b"b")?, &mut other));
+        table.put(Name::read(alloc, b"B")?, 4u8)?;
+        let names = table.names(alloc)?;
+        assert!(rt; names.len() == 2);
+        assert!(rt; names.items()[0].bytes() == b"B".as_slice());
         let mut set = NameSet::new(alloc);
         set.add(name.copy(alloc)?)?;
         assert!(rt; set.has(&name));

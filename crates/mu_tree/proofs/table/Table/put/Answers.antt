@@ -1,4 +1,4 @@
-use Rattle.std.proofs.Common.{◌∙◌, sym, ap}
+use Rattle.std.proofs.Common.{◌∙◌, ap}
 use Rattle.std.specs.FinMap as map
 use Rattle.mu_tree.proofs.TableLemmas.{one_put}
 use Rattle.mu_tree.proofs.table.Table.put.Goals as goal
