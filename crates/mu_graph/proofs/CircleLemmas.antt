@@ -1,12 +1,13 @@
 -- Paths, circles, and the first member of a list that is on one.
 use Rattle.std.proofs.lemmas.List.{take-append-drop, take_more}
 use Rattle.std.proofs.Math.Seq.{drop-cons}
-use Rattle.std.proofs.Common.{◌<◌, ◌+◌, length, take, drop, get_or, refl, sym, ap, subst, ◌∙◌, ◌≡◌, ℕ, zero, suc, Bool, List, [], ◌∷◌, ◌++◌, inl, inr}
+use Rattle.std.proofs.Common.{◌<◌, ◌+◌, length, take, drop, get_or, refl, sym, ap, subst, ◌∙◌, ◌≡◌, ℕ, zero, suc, Bool, List, [], ◌∷◌, ◌++◌, map, inl, inr}
 use Rattle.std.specs.Prelude.{◌⊎◌}
 use Rattle.mu_graph.specs.Derivations.{Stands}
 use Rattle.mu_graph.specs.Circles.{Steps, LeadsTo, OnCircle, IsFirstOf, NoneOf, AreFree, DiffersAt, IsAcyclic, CircleThrough}
 use Rattle.mu_graph.specs.Passes.{Adds}
 use Rattle.mu_graph.specs.Walks.{IsLedTo}
+use Rattle.mu_graph.proofs.DerivationLemmas.{stands_map}
 
 module _ {N : Type 0} where
   -- ---- paths
@@ -89,6 +90,15 @@ module _ {N : Type 0} where
   pub acyclic_still : (new old : N → List N) (u : N) → DiffersAt old new u → IsAcyclic old → (OnCircle new u → ⊥) → IsAcyclic new
   acyclic_still new old u same none not_u n o = not_u (circle_through new old u same none n o).0
 
+  -- ---- fewer edges
+  fewer_steps : (new old : N → List N) → ((n m : N) → Stands m (new n) → Stands m (old n)) → (k : ℕ) (a b : N) → Steps new k a b → Steps old k a b
+  fewer_steps new old fewer zero a b s = fewer a b s
+  fewer_steps new old fewer (suc k) a b s = (s.0, fewer a s.0 s.1, fewer_steps new old fewer k s.0 b s.2)
+
+  -- a graph with no other edges than an acyclic one is acyclic
+  pub fewer_edges_acyclic : (new old : N → List N) → ((n m : N) → Stands m (new n) → Stands m (old n)) → IsAcyclic old → IsAcyclic new
+  fewer_edges_acyclic new old fewer none n o = none n (o.0, fewer_steps new old fewer o.0 n n o.1)
+
   -- ---- the first
   first_found : (P : N → Type 0) (front back : List N) (n : N) → NoneOf P front → P n → IsFirstOf P (front ++ n ∷ back) n
   first_found P [] back n none p = inl (refl, p)
@@ -111,3 +121,12 @@ module _ {N : Type 0} where
 
   pub none_at : (P : N → Type 0) (xs : List N) (i : ℕ) (x : N) → i < length xs → x ≡ get_or xs i x → NoneOf P (take i xs) → (P x → ⊥) → NoneOf P (take (i + 1) xs)
   none_at P xs i x l e none not_x = subst (λ ys. NoneOf P ys) (sym (take_more xs i x l ∙ ap (λ y. take i xs ++ y ∷ []) (sym e))) (none_more P (take i xs) x none not_x)
+
+  -- ---- the first of what a function gives
+  pub first_from : {M : Type 0} (f : M → N) (P : N → Type 0) (ms : List M) (n : N) → IsFirstOf P (map f ms) n → (m : M) × (f m ≡ n) × IsFirstOf (λ k. P (f k)) ms m
+  first_from f P [] n first = absurd first
+  first_from f P (m ∷ ms) n (inl here) = (m, here.0, inl (refl, here.1))
+  first_from f P (m ∷ ms) n (inr later) = let found = first_from f P ms n later.1 in (found.0, found.1, inr (later.0, found.2))
+
+  pub none_from : {M : Type 0} (f : M → N) (P : N → Type 0) (ms : List M) → NoneOf P (map f ms) → NoneOf (λ k. P (f k)) ms
+  none_from f P ms none m s p = none (f m) (stands_map f m ms s) p

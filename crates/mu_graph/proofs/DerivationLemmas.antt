@@ -1,8 +1,8 @@
 -- Membership in lists, and derivations put together.
-use Rattle.std.proofs.Common.{refl, ap, subst, ◌≡◌, Bool, true, false, List, [], ◌∷◌, ◌++◌, inl, inr}
-use Rattle.std.specs.Prelude.{◌⊎◌, ◌||◌}
-use Rattle.std.specs.List.{list_all}
-use Rattle.std.proofs.lemmas.Bool.{false≢true, and_parts, and_from, or_cases}
+use Rattle.std.proofs.Common.{refl, sym, ap, subst, ◌∙◌, ◌≡◌, cond, Bool, true, false, List, [], ◌∷◌, ◌++◌, inl, inr}
+use Rattle.std.specs.Prelude.{◌⊎◌, ◌||◌, map}
+use Rattle.std.specs.List.{AllByRecursion, filter, flat_map, list_any, list_all}
+use Rattle.std.proofs.lemmas.Bool.{false≢true, cond-true, and_parts, and_from, or_cases}
 pub use Rattle.mu_graph.specs.Members.{stands_front, stands_back}
 use Rattle.mu_graph.specs.Derivations.{Stands, AllStand, IsDerivation, StandsInSome, MayStart, is_ready, IsReached}
 
@@ -27,10 +27,52 @@ module _ {N : Type 0} where
   pub stands_last : (n : N) (xs : List N) → Stands n (xs ++ n ∷ [])
   stands_last n xs = stands_back n xs (n ∷ []) (inl refl)
 
+  pub stands_map : {M : Type 0} (f : N → M) (n : N) (ns : List N) → Stands n ns → Stands (f n) (map f ns)
+  stands_map f n [] s = absurd s
+  stands_map f n (k ∷ ns) (inl e) = inl (ap f e)
+  stands_map f n (k ∷ ns) (inr s) = inr (stands_map f n ns s)
+
+  pub stands_from : {M : Type 0} (f : N → M) (m : M) (ns : List N) → Stands m (map f ns) → (n : N) × Stands n ns × (f n ≡ m)
+  stands_from f m [] s = absurd s
+  stands_from f m (k ∷ ns) (inl e) = (k, inl refl, e)
+  stands_from f m (k ∷ ns) (inr s) = let n = stands_from f m ns s in (n.0, inr n.1, n.2)
+
+  pub stands_filter : (p : N → Bool) (n : N) (ns : List N) → Stands n ns → p n ≡ true → Stands n (filter p ns)
+  stands_filter p n [] s h = s
+  stands_filter p n (k ∷ ns) (inl e) h = subst (Stands n) (sym (cond-true (p k) (k ∷ filter p ns) (filter p ns) (ap p e ∙ h))) (inl e)
+  stands_filter p n (k ∷ ns) (inr s) h =
+      elim (p k) as (λ b. Stands n (cond b (k ∷ filter p ns) (filter p ns))) [ true ↦ inr (stands_filter p n ns s h) | false ↦ stands_filter p n ns s h ]
+
+  pub filter_stands : (p : N → Bool) (n : N) (ns : List N) → Stands n (filter p ns) → Stands n ns × (p n ≡ true)
+  filter_stands p n [] s = absurd s
+  filter_stands p n (k ∷ ns) s =
+      let later : Stands n (filter p ns) → Stands n (k ∷ ns) × (p n ≡ true) = λ t. let kept = filter_stands p n ns t in (inr kept.0, kept.1) in
+      elim (p k) as (λ b. p k ≡ b → Stands n (cond b (k ∷ filter p ns) (filter p ns)) → Stands n (k ∷ ns) × (p n ≡ true)) [
+        | true ↦ λ h t. elim t [ inl e ↦ (inl e, ap p (sym e) ∙ h) | inr u ↦ later u ]
+        | false ↦ λ _ t. later t
+      ] refl s
+
+  -- some member passes a test where the test of any passes, and only there
+  pub any_some : (p : N → Bool) (ns : List N) → list_any p ns ≡ true → (n : N) × Stands n ns × (p n ≡ true)
+  any_some p [] h = absurd (false≢true h)
+  any_some p (n ∷ ns) h = elim (or_cases _ _ h) [ inl e ↦ (n, inl refl, e) | inr r ↦ let k = any_some p ns r in (k.0, inr k.1, k.2) ]
+
+  pub some_any : (p : N → Bool) (ns : List N) (n : N) → Stands n ns → p n ≡ true → list_any p ns ≡ true
+  some_any p [] n s h = absurd s
+  some_any p (k ∷ ns) n (inl e) h = or_left _ _ (ap p e ∙ h)
+  some_any p (k ∷ ns) n (inr s) h = or_right _ _ (some_any p ns n s h)
+
+  pub all_at : (P : N → Type 0) (ns : List N) (n : N) → AllByRecursion P ns → Stands n ns → P n
+  all_at P [] n h s = absurd s
+  all_at P (m ∷ ms) n h (inl e) = subst P e h.0
+  all_at P (m ∷ ms) n h (inr s) = all_at P ms n h.1 s
+
+  pub all_from : (P : N → Type 0) (ns : List N) → ((n : N) → Stands n ns → P n) → AllByRecursion P ns
+  all_from P [] f = tt
+  all_from P (n ∷ ns) f = (f n (inl refl), all_from P ns (λ k s. f k (inr s)))
+
   pub all_stand : (ns before : List N) (n : N) → AllStand ns before → Stands n ns → Stands n before
-  all_stand [] before n h s = absurd s
-  all_stand (m ∷ ms) before n h (inl e) = subst (λ k. Stands k before) e h.0
-  all_stand (m ∷ ms) before n h (inr s) = all_stand ms before n h.1 s
+  all_stand ns before n h s = all_at (λ k. Stands k before) ns n h s
 
   pub all_front : (ns xs ys : List N) → AllStand ns xs → AllStand ns (xs ++ ys)
   all_front [] xs ys h = tt
@@ -106,3 +148,9 @@ module _ {N : Type 0} where
     -- what holds at the start, and of each key with a way of whose premises it holds, holds of all that is derivable
     pub reached_in : (P : N → Type 0) → ((n : N) → start n ≡ true → P n) → ((n : N) (way : List N) → Stands way (ways n) → ((m : N) → Stands m way → P m) → P n) → (n : N) → IsReached start ways n → P n
     reached_in P starts closed n r = members_in P starts closed r.0 r.1 n r.2
+
+-- what a member gives is among what all give
+pub all_flat_map : {N M : Type 0} (f : N → List M) (n : N) (ns : List N) → Stands n ns → AllStand (f n) (flat_map f ns)
+all_flat_map f n [] s = absurd s
+all_flat_map f n (k ∷ ns) (inl e) = subst (λ j. AllStand (f j) (f k ++ flat_map f ns)) e (all_front (f k) (f k) (flat_map f ns) (all_from (λ m. Stands m (f k)) (f k) (λ m t. t)))
+all_flat_map f n (k ∷ ns) (inr s) = all_back (f n) (f k) (flat_map f ns) (all_flat_map f n ns s)

@@ -1,13 +1,95 @@
 -- One key after another in a walk, and what stands where none is left to look at.
-use Rattle.std.proofs.Common.{arith, refl, sym, ap, subst, ◌∙◌, ◌≡◌, ◌<◌, ◌≤◌, ◌+◌, length-append, ℕ, zero, suc, Bool, true, false, cond, List, [], ◌∷◌, ◌++◌, length, inl, inr}
+use Rattle.std.proofs.Common.{arith, refl, sym, ap, subst, ◌∙◌, ◌≡◌, ◌<◌, ◌≤◌, ◌+◌, append_assoc, length-append, map, ℕ, zero, suc, Bool, true, false, cond, List, [], ◌∷◌, ◌++◌, length, inl, inr}
 use Rattle.std.specs.Prelude.{◌⊎◌}
 use Rattle.std.proofs.lemmas.Bool.{false≢true}
+use Rattle.std.proofs.lemmas.List.{append-nil, length-map}
 use Rattle.mu_graph.specs.Derivations.{Stands}
 use Rattle.mu_graph.specs.Passes.{Adds, IsBlank}
 use Rattle.mu_graph.specs.Circles.{Steps}
-use Rattle.mu_graph.specs.Walks.{IsLedTo, Walked, unmarked}
+use Rattle.mu_graph.specs.Walks.{IsLedTo, Walked, AreDistinct, Lists, entering, leaving, unmarked}
+use Rattle.mu_graph.specs.declared.walk.Step.{Step}
+use Rattle.mu_graph.specs.declared.walk.Step.TheVariants.{Enter, Leave}
 use Rattle.mu_graph.proofs.CircleLemmas.{path_then_edge}
 use Rattle.mu_graph.proofs.DerivationLemmas.{stands_front, stands_back, stands_either, stands_one, stands_last}
+
+module _ {N : Type 0} where
+  -- ---- steps
+  pub entering_append : (xs ys : List (Step N)) → entering (xs ++ ys) ≡ entering xs ++ entering ys
+  entering_append [] ys = refl
+  entering_append (Enter n ∷ xs) ys = ap (λ ns. n ∷ ns) (entering_append xs ys)
+  entering_append (Leave n ∷ xs) ys = entering_append xs ys
+
+  pub leaving_append : (xs ys : List (Step N)) → leaving (xs ++ ys) ≡ leaving ys ++ leaving xs
+  leaving_append [] ys = sym (append-nil (leaving ys))
+  leaving_append (Enter n ∷ xs) ys = leaving_append xs ys
+  leaving_append (Leave n ∷ xs) ys = ap (λ ns. ns ++ n ∷ []) (leaving_append xs ys) ∙ append_assoc (leaving ys) (leaving xs) (n ∷ [])
+
+  pub entering_all : (ns : List N) → entering (map Enter ns) ≡ ns
+  entering_all [] = refl
+  entering_all (n ∷ ns) = ap (λ ms. n ∷ ms) (entering_all ns)
+
+  pub leaving_none : (ns : List N) → leaving (map Enter ns) ≡ []
+  leaving_none [] = refl
+  leaving_none (n ∷ ns) = leaving_none ns
+
+  -- the last step is to look at a key
+  pub entering_last : (steps : List (Step N)) (n : N) → entering (steps ++ Enter n ∷ []) ≡ entering steps ++ n ∷ []
+  entering_last steps n = entering_append steps (Enter n ∷ [])
+
+  pub leaving_last : (steps : List (Step N)) (n : N) → leaving (steps ++ Enter n ∷ []) ≡ leaving steps
+  leaving_last steps n = leaving_append steps (Enter n ∷ [])
+
+  -- the last step is to leave a key
+  pub entering_left : (steps : List (Step N)) (n : N) → entering (steps ++ Leave n ∷ []) ≡ entering steps
+  entering_left steps n = entering_append steps (Leave n ∷ []) ∙ append-nil (entering steps)
+
+  pub leaving_left : (steps : List (Step N)) (n : N) → leaving (steps ++ Leave n ∷ []) ≡ n ∷ leaving steps
+  leaving_left steps n = leaving_append steps (Leave n ∷ [])
+
+  -- a key is to be left after all that it leads to
+  pub entering_visit : (steps : List (Step N)) (n : N) (ns : List N) → entering (steps ++ Leave n ∷ map Enter ns) ≡ entering steps ++ ns
+  entering_visit steps n ns = entering_append steps (Leave n ∷ map Enter ns) ∙ ap (λ ms. entering steps ++ ms) (entering_all ns)
+
+  pub leaving_visit : (steps : List (Step N)) (n : N) (ns : List N) → leaving (steps ++ Leave n ∷ map Enter ns) ≡ n ∷ leaving steps
+  leaving_visit steps n ns = leaving_append steps (Leave n ∷ map Enter ns) ∙ ap (λ ms. (ms ++ n ∷ []) ++ leaving steps) (leaving_none ns)
+
+  -- ---- what is listed
+  -- where no key is marked none is listed
+  pub none_listed : (marked : N → Bool) → IsBlank marked → Lists marked []
+  none_listed marked blank = record {
+    marks = λ k s. absurd s;
+    marked_stand = λ k m. absurd (false≢true (sym (blank k) ∙ m));
+    once = tt;
+  }
+
+  distinct_between : (front back : List N) (n : N) → (Stands n (front ++ back) → ⊥) → AreDistinct (front ++ back) → AreDistinct (front ++ n ∷ back)
+  distinct_between [] back n not_yet distinct = (not_yet, distinct)
+  distinct_between (m ∷ front) back n not_yet distinct = (
+    λ s. elim (stands_either m front (n ∷ back) s) [
+      | inl t ↦ distinct.0 (stands_front m front back t)
+      | inr (inl e) ↦ not_yet (inl (sym e))
+      | inr (inr t) ↦ distinct.0 (stands_back m front back t)
+    ],
+    distinct_between front back n (λ s. not_yet (inr s)) distinct.1,
+  )
+
+  -- one more key is marked and listed
+  pub one_listed : (marked next : N → Bool) (front back : List N) (n : N) → Lists marked (front ++ back) → marked n ≡ false → Adds marked next n → Lists next (front ++ n ∷ back)
+  one_listed marked next front back n l not_yet added = record {
+    marks = λ k s. elim (stands_either k front (n ∷ back) s) [
+      | inl t ↦ added.1 k (inr (l.marks k (stands_front k front back t)))
+      | inr (inl e) ↦ added.1 k (inl e)
+      | inr (inr t) ↦ added.1 k (inr (l.marks k (stands_back k front back t)))
+    ];
+    marked_stand = λ k m. elim (added.0 k m) [
+      | inl e ↦ stands_back k front (n ∷ back) (inl e)
+      | inr o ↦ elim (stands_either k front back (l.marked_stand k o)) [
+        | inl t ↦ stands_front k front (n ∷ back) t
+        | inr t ↦ stands_back k front (n ∷ back) (inr t)
+      ]
+    ];
+    once = distinct_between front back n (λ s. false≢true (sym not_yet ∙ l.marks n s)) l.once;
+  }
 
 cond_le : (before after : Bool) (k : ℕ) → (before ≡ true → after ≡ true) → cond after 0 k ≤ cond before 0 k
 cond_le true true k f = omega arith
@@ -109,9 +191,10 @@ module _ {N : Type 0} (leads : N → List N) where
       let same : size k ≡ size n = ap size e in
       omega (arith, here, there, same, unmarked_le marked next (λ j m. added.1 j (inr m)) ns)
 
-  pub walk_falls : (universe : List N) → ((n m : N) → Stands m (leads n) → Stands m universe) → (starts : List N) (marked next : N → Bool) (old new work : List N) (n : N)
-      → old ≡ work ++ n ∷ [] → new ≡ work ++ leads n → Walked leads starts marked old → marked n ≡ false → Adds marked next n
+  pub walk_falls : (universe : List N) → ((n m : N) → Stands m (leads n) → Stands m universe) → (starts : List N) (marked next : N → Bool) (old new work : List (Step N)) (n : N)
+      → old ≡ work ++ Enter n ∷ [] → new ≡ work ++ Leave n ∷ map Enter (leads n) → Walked leads starts marked (entering old) → marked n ≡ false → Adds marked next n
       → unmarked leads next (starts ++ universe) + length new < unmarked leads marked (starts ++ universe) + length old
   walk_falls universe within starts marked next old new work n is_old is_new w not_yet added =
-      let here : Stands n old = subst (λ xs. Stands n xs) (sym is_old) (stands_last n work) in
-      omega (arith, ap length is_old, ap length is_new, length-append work (n ∷ []), length-append work (leads n), unmarked_falls marked next n added not_yet (starts ++ universe) (led_within universe within starts n (w.sound n (inr here))))
+      let here : Stands n (entering old) = subst (λ ns. Stands n ns) (sym (ap entering is_old ∙ entering_last work n)) (stands_last n (entering work)) in
+      let longer : length new ≡ length work + suc (length (leads n)) = ap length is_new ∙ length-append work (Leave n ∷ map Enter (leads n)) ∙ ap (λ k. length work + suc k) (length-map (leads n) Enter) in
+      omega (arith, ap length is_old, longer, length-append work (Enter n ∷ []), unmarked_falls marked next n added not_yet (starts ++ universe) (led_within universe within starts n (w.sound n (inr here))))

@@ -1,4 +1,5 @@
 pub mod Circles
+pub mod Decisions
 pub mod Derivations
 pub mod Members
 pub mod Names

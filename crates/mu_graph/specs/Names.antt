@@ -1,4 +1,4 @@
--- Graphs of names, given by a finite map to values that name others.
+-- Graphs given by a finite map from names to values, each of which leads to some keys.
 use Rattle.std.specs.Prelude.{ℕ, true, false, List, [], ◌∷◌, ◌++◌, cond, Some}
 use Rattle.std.proofs.Common.{subst}
 use Rattle.std.specs.Ordering.{nat_cmp, eq_by_cmp}
@@ -10,21 +10,21 @@ use Rattle.mu_tree.specs.Maps.{MapOf}
 use Rattle.mu_graph.specs.Derivations.{Stands}
 use Rattle.mu_graph.specs.Members.{stands_front, stands_back}
 
--- the names that a name leads to: by `links` those in its value, and none where the map has no such name
-abbrev pub led_by : {V : Type 0} → (V → List (List ℕ)) → MapOf V → List ℕ → List (List ℕ)
+-- the keys that a name leads to: by `links` those of its value, and none where the map has no such name
+abbrev pub led_by : {V K : Type 0} → (V → List K) → MapOf V → List ℕ → List K
 led_by links table name = option_map_or links (map.get table name) []
 
--- the names in the values of some entries
-abbrev pub all_links : {V : Type 0} → (V → List (List ℕ)) → List (List ℕ × V) → List (List ℕ)
+-- the keys that the values of some entries lead to
+abbrev pub all_links : {V K : Type 0} → (V → List K) → List (List ℕ × V) → List K
 all_links links [] = []
 all_links links (entry ∷ entries) = links entry.1 ++ all_links links entries
 
--- all names that any name leads to
-abbrev pub linked : {V : Type 0} → (V → List (List ℕ)) → MapOf V → List (List ℕ)
+-- all keys that any name leads to
+abbrev pub linked : {V K : Type 0} → (V → List K) → MapOf V → List K
 linked links table = all_links links (map.entries table)
 
--- what is found at a name names only names that some entry names
-found_linked : {V : Type 0} (links : V → List (List ℕ)) (entries : List (List ℕ × V)) (from to : List ℕ)
+-- what is found at a name leads only to keys that some entry leads to
+found_linked : {V K : Type 0} (links : V → List K) (entries : List (List ℕ × V)) (from : List ℕ) (to : K)
     → Stands to (option_map_or links (find (slice_cmp nat_cmp) from entries) []) → Stands to (all_links links entries)
 found_linked links [] from to h = h
 found_linked links (entry ∷ entries) from to h =
@@ -34,5 +34,5 @@ found_linked links (entry ∷ entries) from to h =
     ] h
 
 -- the law: what a name leads to is among all that any name leads to
-pub leads_linked : {V : Type 0} (links : V → List (List ℕ)) (table : MapOf V) (from to : List ℕ) → Stands to (led_by links table from) → Stands to (linked links table)
+pub leads_linked : {V K : Type 0} (links : V → List K) (table : MapOf V) (from : List ℕ) (to : K) → Stands to (led_by links table from) → Stands to (linked links table)
 leads_linked links table from to s = found_linked links (map.entries table) from to (subst (λ found. Stands to (option_map_or links found [])) (map.get-entries table from) s)

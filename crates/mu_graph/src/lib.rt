@@ -10,4 +10,4 @@ mod walk;
 
 pub use circle::{first_on_circle, leads_back};
 pub use engine::{Causes, Marks, reached};
-pub use walk::{Edges, spread};
+pub use walk::{Edges, reachable, spread};

@@ -4,7 +4,7 @@ ghost use Rattle.std.specs.Cmp.Lexicographic.{pointwise};
 ghost use Rattle.std.specs.FinMap as finite;
 ghost use Rattle.std.specs.List.{filter, list_all, list_any};
 
-use crate::{Causes, Marks, first_on_circle, leads_back, reached, spread};
+use crate::{Causes, Marks, first_on_circle, leads_back, reachable, reached, spread};
 use mu_tree::{Name, NameSet, Names, NoMemory, Table};
 use std::alloc::Global;
 use std::test::Fail;
@@ -150,6 +150,42 @@ fn spreads_from_the_starts(rt: HostRuntime) -> Result<(), Fail> {
     }
     for letter in b"ad" {
         assert!(rt; !seen.has(&name(alloc, *letter)?));
+    }
+    Ok(())
+}
+
+#[test]
+fn lists_what_is_reachable(rt: HostRuntime) -> Result<(), Fail> {
+    let alloc = rt.alloc();
+    // a chain that leads back into itself and to a key that is not there, a key that leads to the chain, and one that leads
+    // to it at two places
+    let table = graph(
+        alloc,
+        &[
+            (b'a', b"b"),
+            (b'b', b"c"),
+            (b'c', b"bz"),
+            (b'd', b"a"),
+            (b'e', b"az"),
+        ],
+    )?;
+    for (starts, listed) in [
+        (b"a".as_slice(), b"zcba".as_slice()),
+        (b"", b""),
+        (b"y", b"y"),
+        (b"cc", b"zbc"),
+        (b"ad", b"zcbad"),
+        (b"e", b"zcbae"),
+    ] {
+        let mut keys = Vec::new(alloc);
+        for letter in starts {
+            keys.push(name(alloc, *letter)?)?;
+        }
+        let found = reachable(alloc, &table, keys)?;
+        assert!(rt; found.len() == listed.len());
+        for (key, letter) in found.iter().zip(listed) {
+            assert!(rt; *key == name(alloc, *letter)?);
+        }
     }
     Ok(())
 }

@@ -1,0 +1,87 @@
+-- The entries of a finite map by name as members of a list.
+use Rattle.std.proofs.Common.{refl, sym, ap, subst, ◌∙◌, ◌≡◌, ℕ, Bool, true, false, List, [], ◌∷◌, map, Some, None, inl, inr}
+use Rattle.std.specs.Prelude.{◌&&◌, T}
+use Rattle.std.specs.Ordering.{nat_cmp, eq_by_cmp, is_eq, is_lt}
+use Rattle.std.specs.Cmp.{tied_itself}
+use Rattle.std.specs.Cmp.Lexicographic.{slice_cmp, nat_list_cmp_total}
+use Rattle.std.specs.FinMap as finite
+use Rattle.std.specs.FinMap.Entries.{find, is_sorted, below_all}
+use Rattle.std.proofs.lemmas.Bool.{false≢true, cases_Bool, cond-true, cond-false}
+use Rattle.std.proofs.lemmas.Map.Lookups.{exact_bytes}
+use Rattle.std.proofs.lemmas.Map.Views.{tells_apart}
+use Rattle.mu_tree.specs.Maps.{MapOf}
+use Rattle.mu_graph.specs.Derivations.{Stands}
+use Rattle.mu_graph.specs.Walks.{AreDistinct}
+use Rattle.mu_graph.proofs.DerivationLemmas.{stands_map}
+
+and_left : (a b : Bool) → T (a && b) → T a
+and_left true b h = tt
+and_left false b h = h
+
+and_right : (a b : Bool) → T (a && b) → T b
+and_right true b h = h
+and_right false b h = absurd h
+
+not_below_itself : (name : List ℕ) → T (is_lt (slice_cmp nat_cmp name name)) → ⊥
+not_below_itself name h = subst (λ order. T (is_lt order)) (tied_itself nat_list_cmp_total name) h
+
+module _ {V : Type 0} where
+  -- the keys after a key that is below them all are greater
+  all_below : (name : List ℕ) (entries : List (List ℕ × V)) → T (below_all (slice_cmp nat_cmp) name entries) → (other : List ℕ) → Stands other (map (λ entry. entry.0) entries) → T (is_lt (slice_cmp nat_cmp name other))
+  all_below name [] h other s = absurd s
+  all_below name (entry ∷ entries) h other (inl e) = subst (λ key. T (is_lt (slice_cmp nat_cmp name key))) e (and_left _ _ h)
+  all_below name (entry ∷ entries) h other (inr s) = all_below name entries (and_right _ _ h) other s
+
+  distinct_sorted : (entries : List (List ℕ × V)) → T (is_sorted (slice_cmp nat_cmp) entries) → AreDistinct (map (λ entry. entry.0) entries)
+  distinct_sorted [] h = tt
+  distinct_sorted (entry ∷ entries) h = (λ s. not_below_itself entry.0 (all_below entry.0 entries (and_left _ _ h) entry.0 s), distinct_sorted entries (and_right _ _ h))
+
+  -- no name has two entries
+  pub distinct_keys : (m : MapOf V) → AreDistinct (finite.keys m)
+  distinct_keys m = distinct_sorted (finite.entries m) (finite.entries_sorted m)
+
+  found_first : (entries : List (List ℕ × V)) → AreDistinct (map (λ entry. entry.0) entries) → (name : List ℕ) (value : V) → Stands (name, value) entries → find (slice_cmp nat_cmp) name entries ≡ Some value
+  found_first [] distinct name value s = absurd s
+  found_first (entry ∷ entries) distinct name value s =
+      elim (cases_Bool (eq_by_cmp (slice_cmp nat_cmp) name entry.0)) [
+        | inl same ↦ cond-true (eq_by_cmp (slice_cmp nat_cmp) name entry.0) (Some entry.1) (find (slice_cmp nat_cmp) name entries) same ∙ ap Some (elim s [
+          | inl e ↦ ap (λ each. each.1) e
+          | inr later ↦ absurd (distinct.0 (subst (λ key. Stands key (map (λ each. each.0) entries)) (tells_apart exact_bytes name entry.0 same) (stands_map (λ each. each.0) (name, value) entries later)))
+        ])
+        | inr other ↦ cond-false (eq_by_cmp (slice_cmp nat_cmp) name entry.0) (Some entry.1) (find (slice_cmp nat_cmp) name entries) other ∙ elim s [
+          | inl e ↦ absurd (false≢true (sym other ∙ subst (λ key. eq_by_cmp (slice_cmp nat_cmp) name key ≡ true) (sym (ap (λ each. each.0) e)) (ap is_eq (tied_itself nat_list_cmp_total name))))
+          | inr later ↦ found_first entries distinct.1 name value later
+        ]
+      ]
+
+  found_among : (entries : List (List ℕ × V)) (name : List ℕ) (value : V) → find (slice_cmp nat_cmp) name entries ≡ Some value → Stands (name, value) entries
+  found_among [] name value is = absurd (cc is)
+  found_among (entry ∷ entries) name value is =
+      elim (cases_Bool (eq_by_cmp (slice_cmp nat_cmp) name entry.0)) [
+        | inl same ↦
+            let here : entry.1 ≡ value = some_same (sym (cond-true (eq_by_cmp (slice_cmp nat_cmp) name entry.0) (Some entry.1) (find (slice_cmp nat_cmp) name entries) same) ∙ is) in
+            inl (ap (λ key. (key, entry.1)) (sym (tells_apart exact_bytes name entry.0 same)) ∙ ap (λ each. (name, each)) here)
+        | inr other ↦ inr (found_among entries name value (sym (cond-false (eq_by_cmp (slice_cmp nat_cmp) name entry.0) (Some entry.1) (find (slice_cmp nat_cmp) name entries) other) ∙ is))
+      ]
+    where
+      some_same : {x y : V} → Some x ≡ Some y → x ≡ y
+      some_same e = cc
+
+  -- an entry is what the map has at its name, and the other way round
+  pub entry_found : (m : MapOf V) (name : List ℕ) (value : V) → Stands (name, value) (finite.entries m) → finite.get m name ≡ Some value
+  entry_found m name value s = finite.get-entries m name ∙ found_first (finite.entries m) (distinct_keys m) name value s
+
+  pub found_entry : (m : MapOf V) (name : List ℕ) (value : V) → finite.get m name ≡ Some value → Stands (name, value) (finite.entries m)
+  found_entry m name value is = found_among (finite.entries m) name value (sym (finite.get-entries m name) ∙ is)
+
+  -- a name at which the map has a value is one of its keys
+  pub kept_stands : (m : MapOf V) (name : List ℕ) (value : V) → finite.get m name ≡ Some value → Stands name (finite.keys m)
+  kept_stands m name value is = stands_map (λ entry. entry.0) (name, value) (finite.entries m) (found_entry m name value is)
+
+  none_among : (entries : List (List ℕ × V)) → ((name : List ℕ) (value : V) → Stands (name, value) entries → ⊥) → entries ≡ []
+  none_among [] none = refl
+  none_among (entry ∷ entries) none = absurd (none entry.0 entry.1 (inl refl))
+
+  -- an empty map has no entries
+  pub no_entries : finite.entries {X = V} {R = slice_cmp nat_cmp} finite.empty ≡ []
+  no_entries = none_among _ (λ name value s. let is : None ≡ Some value = sym (finite.get-empty (slice_cmp nat_cmp) name) ∙ entry_found finite.empty name value s in absurd (cc is))
