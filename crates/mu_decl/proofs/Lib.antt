@@ -1,3 +1,4 @@
+pub mod Agreement
 pub mod Capture
 pub mod Closing
 pub mod EnteredClosed

@@ -1,3 +1,4 @@
+pub mod Arities
 pub mod Claims
 pub mod Instantiated
 pub mod Laws

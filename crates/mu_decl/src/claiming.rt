@@ -1,11 +1,12 @@
 ghost use Rattle.std.specs.Prelude.{◌≡◌, ◌++◌, map, true, IfOk, OnOk};
 ghost use Rattle.std.specs.List.{list_all, flat_map};
 ghost use Rattle.mu_decl.specs.WellFormed.{expression};
-ghost use Rattle.mu_decl.specs.Claims.{names_of, types_formed, type_occurrences, hypothesis_occurrences, claim_occurrences, hypothesis_formed, same_occurrence, agree, agrees, claim_formed, well_formed};
+ghost use Rattle.mu_decl.specs.Claims.{names_of, types_formed, type_occurrences, hypothesis_occurrences, claim_occurrences, hypothesis_formed, claim_formed, well_formed};
 
+use crate::agreeing::occurrences_agree;
 use crate::context::Context;
 use crate::forming::{Scope, Scoped, all_formed, is_formed};
-use crate::occurring::{Occurrence, Occurrences, all_occurrences, occurrences};
+use crate::occurring::{Occurrences, all_occurrences, occurrences};
 use mu_tree::{Claim, Hyp, Kind, Name, Names, NoMemory, Sequence, TypedVar};
 use std::alloc::Global;
 
@@ -80,7 +81,12 @@ fn hypotheses_formed<C: Context>(
     Ok(true)
 }
 
-fn add_type_occurrences<C: Context>(
+/// Adds the occurrences of metavariables in the types of some variables, in the order of the variables.
+///
+/// # Errors
+///
+/// `NoMemory` may come at any variables; some occurrences may then be added.
+pub fn add_type_occurrences<C: Context>(
     alloc: Global,
     context: &C,
     vars: &[TypedVar],
@@ -136,32 +142,6 @@ pub fn claim_occurrences<C: Context>(
     Ok(found)
 }
 
-/// Whether two occurrences are of one metavariable, with as many arguments and of the same kind.
-pub fn same_occurrence(left: &Occurrence, right: &Occurrence) -> bool
-    ensures { result ≡ same_occurrence left.now right.now }
-{
-    right.meta == left.meta && right.count == left.count && right.kind == left.kind
-}
-
-fn agree(left: &Occurrence, right: &Occurrence) -> bool
-    ensures { result ≡ agree left.now right.now }
-{
-    !(right.meta == left.meta) || same_occurrence(left, right)
-}
-
-fn agrees(all: &Occurrences, one: &Occurrence) -> bool
-    ensures { result ≡ agrees all.now one.now }
-{
-    all.items().iter().all(|other| agree(one, other))
-}
-
-/// Whether no metavariable occurs with two numbers of arguments or with two kinds.
-pub fn occurrences_agree(all: &Occurrences) -> bool
-    ensures { result ≡ list_all (agrees all.now) all.now }
-{
-    all.items().iter().all(|one| agrees(all, one))
-}
-
 fn claim_formed<C: Context>(
     alloc: Global,
     context: &C,
@@ -178,7 +158,7 @@ fn claim_formed<C: Context>(
         return Ok(false);
     }
     let found = claim_occurrences(alloc, context, claim)?;
-    Ok(occurrences_agree(&found))
+    occurrences_agree(alloc, &found)
 }
 
 /// Whether a claim is well formed in a unit: its hypotheses and its conclusion are elements in the units that are

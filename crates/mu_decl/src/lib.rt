@@ -6,6 +6,7 @@
 //! differ in the names of bound variables alone. Well-formedness looks at kinds and at the units that are seen, and needs no nameless trees.
 #![tactic(auto)]
 
+mod agreeing;
 mod bare;
 mod claiming;
 mod context;
@@ -16,10 +17,9 @@ mod instantiating;
 mod occurring;
 mod opening;
 
+pub use agreeing::{occurrences_agree, same_occurrence};
 pub use bare::{Bare, Bares, same, same_all};
-pub use claiming::{
-    claim_occurrences, occurrences_agree, same_occurrence, types_formed, well_formed,
-};
+pub use claiming::{add_type_occurrences, claim_occurrences, types_formed, well_formed};
 pub use context::{Context, Own};
 pub use declaration::{ConstDecl, MorphMap, Renamings, Statement};
 pub use entering::enter;

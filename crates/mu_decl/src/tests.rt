@@ -95,6 +95,26 @@ fn refuses_a_metavariable_with_two_numbers_of_arguments(rt: HostRuntime) -> Resu
     Ok(())
 }
 
+// ?F of 20,000 ?P and of a last argument
+fn many(alloc: Global, last: Tree) -> Result<Tree, Fail> {
+    let mut arguments = Trees::new(alloc);
+    for _ in 0..20_000 {
+        arguments.push(meta(alloc, false)?)?;
+    }
+    arguments.push(last)?;
+    Ok(Tree::Meta(Name::read(alloc, b"F")?, arguments))
+}
+
+#[test]
+fn compares_many_occurrences_with_the_first(rt: HostRuntime) -> Result<(), Fail> {
+    let alloc = rt.alloc();
+    let hypothesis = many(alloc, meta(alloc, false)?)?;
+    assert!(rt; is_well_formed(alloc, hypothesis, meta(alloc, false)?)?);
+    let hypothesis = many(alloc, meta(alloc, true)?)?;
+    assert!(rt; !is_well_formed(alloc, hypothesis, meta(alloc, false)?)?);
+    Ok(())
+}
+
 fn leaf(alloc: Global, name: &[u8]) -> Result<Tree, Fail> {
     Ok(Tree::App(Name::read(alloc, name)?, Trees::new(alloc)))
 }
