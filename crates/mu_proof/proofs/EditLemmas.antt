@@ -11,7 +11,7 @@ use Rattle.std.proofs.lemmas.List.Edits.{length-insert}
 use Rattle.std.proofs.lemmas.List.Sorted.{IsPermutation-insert, IsPermutation-map, All-permutation, list_any-IsPermutation}
 use Rattle.std.proofs.lemmas.Map.Keys.{IsDistinct-cons, IsDistinct-head, IsDistinct-tail, IsDistinct-IsPermutation}
 use Rattle.std.proofs.lemmas.List.Elements.{All-cons, All-map}
-use Rattle.std.proofs.lemmas.List.{length-map}
+use Rattle.std.proofs.lemmas.List.{length-map, set-get_or}
 use Rattle.mu_tree.specs.declared.why.Why.{Why}
 use Rattle.mu_tree.specs.declared.tree.Tree.{Tree}
 use Rattle.mu_tree.specs.declared.claim.TypedVar.{TypedVar}
@@ -20,9 +20,9 @@ use Rattle.mu_proof.specs.declared.item.Item.{Item}
 use Rattle.mu_proof.specs.declared.item.Item.TheOpen.{Item-F, Line, Block}
 use Rattle.mu_proof.specs.declared.item.Item.TheFolds.{map-Item, fold-roll-Item, fold_out-Item}
 use Rattle.mu_proof.specs.declared.item.Item.TheVariants as item
-use Rattle.mu_proof.specs.declared.item.Item.TheViews.{out-Item}
-use Rattle.mu_proof.specs.Lines.{label_of, is_line, IsLine, has_label, is_line_at, label_step, line_step, with_why, why_step, rejustified}
-use Rattle.mu_proof.specs.Proofs.{IsProof, is_label, is_free, root, with_why_at, unless, insert_fault, label_fault, room_fault}
+use Rattle.mu_proof.specs.declared.item.Item.TheViews.{out-Item, roll-Item, out-roll-Item, roll-out-Item}
+use Rattle.mu_proof.specs.Lines.{label_of, is_line, IsLine, has_label, is_line_at, label_step, line_step, with_why, why_step, why_of, reason_step, rejustified}
+use Rattle.mu_proof.specs.Proofs.{IsProof, is_label, is_line_label, is_free, root, with_why_at, unless, insert_fault, label_fault, room_fault}
 
 any_step : (b : Bool) (n m : ℕ) (t : Bool) → nat_lt n m ≡ t → nat_lt (cond (not b) (1 + n) 0) (1 + m) ≡ (b || t)
 any_step true n m t e = grind (arith, nat_tests)
@@ -149,6 +149,23 @@ label_of-with_why why i = step_label why (out-Item i) ∙ sym (fold_out-Item (Li
 is_line-with_why : (why : Option Why) (i : Item) → is_line (with_why why i) ≡ is_line i
 is_line-with_why why i = step_line why (out-Item i) ∙ sym (fold_out-Item Bool line_step i)
 
+step_twice : (first second : Option Why) (y : Item-F Item) → with_why second (why_step first y) ≡ why_step second y
+step_twice first second (Line label tree before) = ap (with_why second) (sym (item.rolls-Line label tree first)) ∙ ap (why_step second) (out-roll-Item (Line label tree first))
+step_twice first second (Block label vars assumptions items) =
+    ap (with_why second) (sym (item.rolls-Block label vars assumptions items)) ∙ ap (why_step second) (out-roll-Item (Block label vars assumptions items))
+
+-- of two justifications the second stays
+with_why_twice : (first second : Option Why) (i : Item) → with_why second (with_why first i) ≡ with_why second i
+with_why_twice first second i = step_twice first second (out-Item i)
+
+step_own : (y : Item-F Item) → why_step (reason_step (map-Item Item (Option Why) why_of y)) y ≡ roll-Item y
+step_own (Line label tree why) = sym (item.rolls-Line label tree why)
+step_own (Block label vars assumptions items) = sym (item.rolls-Block label vars assumptions items)
+
+-- with its own justification an item is as it was
+with_why_own : (i : Item) → with_why (why_of i) i ≡ i
+with_why_own i = ap (λ why. why_step why (out-Item i)) (fold_out-Item (Option Why) reason_step i) ∙ step_own (out-Item i) ∙ roll-out-Item i
+
 module _ (label : List ℕ) (why : Option Why) where
   label_of-rejustified : (i : Item) → label_of (rejustified label why i) ≡ label_of i
   label_of-rejustified i = elim (is_line_at label i) as (λ b. label_of (cond b (with_why why i) i) ≡ label_of i) [ true ↦ label_of-with_why why i | false ↦ refl ]
@@ -163,6 +180,14 @@ module _ (label : List ℕ) (why : Option Why) where
   same_is_label : (other : List ℕ) (items : List Item) → is_label (with_why_at items label why) other ≡ is_label items other
   same_is_label other [] = refl
   same_is_label other (i ∷ items) = rw (label_of-rejustified i, same_is_label other items)
+
+  is_line_at-rejustified : (i : Item) → is_line_at label (rejustified label why i) ≡ is_line_at label i
+  is_line_at-rejustified i = rw (label_of-rejustified i, is_line-rejustified i)
+
+  -- a line of the label stays one
+  pub same_is_line_label : (items : List Item) → is_line_label (with_why_at items label why) label ≡ is_line_label items label
+  same_is_line_label [] = refl
+  same_is_line_label (i ∷ items) = rw (is_line_at-rejustified i, same_is_line_label items)
 
   lines_stay : (items : List Item) → All IsLine items → All IsLine (with_why_at items label why)
   lines_stay items lines = All-map IsLine (rejustified label why) items (λ k d h. is_line-rejustified (get_or items k d) ∙ lines k d h)
@@ -213,3 +238,22 @@ module _ (label : List ℕ) (why : Option Why) where
       by_test : (b : Bool) (n : ℕ) → cond b (Some n) None ≡ Some at → n ≡ at
       by_test true n e = cc
       by_test false n e = cc
+
+module _ (label : List ℕ) where
+  rejustified_twice : (first second : Option Why) (i : Item) → rejustified label second (rejustified label first i) ≡ rejustified label second i
+  rejustified_twice first second i = go (is_line_at label i) refl
+    where
+      go : (b : Bool) → is_line_at label i ≡ b → rejustified label second (rejustified label first i) ≡ rejustified label second i
+      go true at = rw (is_line_at-rejustified label first i, at) (with_why_twice first second i)
+      go false at = rw (is_line_at-rejustified label first i, at) refl
+
+  -- of two justifications of a line the second stays
+  pub with_why_at_twice : (first second : Option Why) (items : List Item) → with_why_at (with_why_at items label first) label second ≡ with_why_at items label second
+  with_why_at_twice first second [] = refl
+  with_why_at_twice first second (i ∷ items) = rw (rejustified_twice first second i, with_why_at_twice first second items)
+
+  -- with the justification that its line has, a proof is as it was
+  pub with_why_at_own : (items : List Item) (at : ℕ) (d old : Item) → IsDistinct (pointwise nat_eq) (map label_of items) → Some at ≡ position (is_line_at label) items → old ≡ get_or items at d
+      → with_why_at items label (why_of old) ≡ items
+  with_why_at_own items at d old distinct found was =
+      sym (one_replaced label (why_of old) items at d old old distinct found was (sym (with_why_own old))) ∙ ap (set items at) was ∙ set-get_or items at d

@@ -1,5 +1,5 @@
 -- What is read off an item of a proof.
-use Rattle.std.specs.Prelude.{◌≡◌, ℕ, Bool, true, false, ◌&&◌, cond, List, Option}
+use Rattle.std.specs.Prelude.{◌≡◌, ℕ, Bool, true, false, ◌&&◌, cond, List, Option, None}
 use Rattle.std.specs.Bool.{nat_eq}
 use Rattle.std.specs.Cmp.Lexicographic.{pointwise}
 use Rattle.mu_tree.specs.declared.why.Why.{Why}
@@ -51,3 +51,12 @@ with_why why line = why_step why (out-Item line)
 -- an item, with another justification where it is the line of a label
 abbrev pub rejustified : List ℕ → Option Why → Item → Item
 rejustified label why line = cond (is_line_at label line) (with_why why line) line
+
+-- the justification at the top of an item, none of a block
+abbrev pub reason_step : Item-F (Option Why) → Option Why
+reason_step (Line label tree why) = why
+reason_step (Block label vars assumptions reasons) = None
+
+-- the justification of a line
+abbrev pub why_of : Item → Option Why
+why_of = fold-Item (Option Why) reason_step

@@ -1,9 +1,10 @@
 ghost use Rattle.std.specs.Prelude.{◌≡◌, IfOk};
-ghost use Rattle.mu_proof.specs.Lines.{label_of, is_line as line_test, IsLine, with_why};
+ghost use Rattle.mu_proof.specs.Lines.{label_of, is_line as line_test, IsLine, with_why, why_of};
 
 use mu_tree::{Duplicate, Name, NoMemory, Tree, Trees, TypedVars, Why};
 use sqlite_items::Items;
 use std::alloc::Global;
+use std::mem;
 
 /// A step of a proof.
 #[derive(Debug, Drop)]
@@ -92,13 +93,14 @@ impl Item {
         Ok(copies)
     }
 
-    /// Replaces the justification of a line.
-    pub(crate) fn set_why(&mut self, reason: Option<Why>)
+    /// Exchanges the justification of a line for another one.
+    pub(crate) fn swap_why(&mut self, reason: &mut Option<Why>)
         requires { IsLine self.old }
-        ensures { self.new ≡ with_why reason self.old }
+        ensures item { self.new ≡ with_why reason.old self.old }
+        ensures reason { reason.new ≡ why_of self.old }
     {
         match self {
-            Item::Line { why, .. } => *why = reason,
+            Item::Line { why, .. } => mem::swap(why, reason),
             Item::Block { .. } => unreachable!(),
         }
     }

@@ -1,8 +1,8 @@
-ghost use Rattle.std.specs.Prelude.{◌≡◌, ◌≢◌, ◌≤◌, [], length, None, Some, IfOk, OnOk, OnErr, IfErr};
+ghost use Rattle.std.specs.Prelude.{◌≡◌, true, false, ◌≢◌, ◌≤◌, [], length, None, Some, IfOk, OnOk, OnErr, IfErr};
 ghost use Rattle.std.specs.Option.{option_copied};
 ghost use Rattle.std.specs.List.{find, position};
 ghost use Rattle.mu_proof.specs.Lines.{label_of, IsLine, has_label, is_line_at};
-ghost use Rattle.mu_proof.specs.Proofs.{IsProof, is_root as root_test, is_label, place_of, inserted, block_fault, before_fault, label_fault, room_fault, insert_fault, with_why_at, why_fault};
+ghost use Rattle.mu_proof.specs.Proofs.{IsProof, is_root as root_test, is_label, place_of, inserted, block_fault, before_fault, label_fault, room_fault, insert_fault, with_why_at, why_fault, is_line_label};
 
 use crate::fault::ProofFault;
 use crate::item::Item;
@@ -97,7 +97,6 @@ impl Proof {
     /// # Errors
     ///
     /// `Unknown` where no line has the label. `NoMemory` may come at any call. Each leaves the proof as it was.
-    #[tactic(auto, using(crate::proofs::EditLemmas::none_passes, crate::proofs::EditLemmas::one_passes))]
     pub fn set_why(
         &mut self,
         alloc: Global,
@@ -109,12 +108,30 @@ impl Proof {
         ensures fault { IfErr result (λ fault. fault ≢ ProofFault.NoMemory → why_fault self.old label.now ≡ Some fault) }
         ensures err { OnErr result (self.new ≡ self.old) }
     {
+        let mut why = why;
+        if self.swap_why(label, &mut why) {
+            return Ok(());
+        }
+        Err(ProofFault::Unknown(label.copy(alloc)?))
+    }
+
+    /// Exchanges the justification of the line of a label for another one, where there is such a line, and says whether
+    /// there is. It takes no memory.
+    ///
+    /// A second exchange gives the proof as it was.
+    pub fn swap_why(&mut self, label: &Name, why: &mut Option<Why>) -> bool
+        ensures found { result ≡ is_line_label self.old label.now }
+        ensures there { result ≡ true → self.new ≡ with_why_at self.old label.now why.old }
+        ensures back { result ≡ true → with_why_at self.new label.now why.new ≡ self.old }
+        ensures again { result ≡ true → is_line_label self.new label.now ≡ true }
+        ensures none { result ≡ false → self.new ≡ self.old }
+    {
         match line_position_of(&self.items, label) {
             Some(at) => {
-                self.items[at].set_why(why);
-                Ok(())
+                self.items[at].swap_why(why);
+                true
             }
-            None => Err(ProofFault::Unknown(label.copy(alloc)?)),
+            None => false,
         }
     }
 
@@ -321,6 +338,23 @@ mod tests {
         }
         let unknown = proof.set_why(alloc, &z, None);
         assert!(rt; unknown == Err(ProofFault::Unknown(name(alloc, b"z")?)));
+        Ok(())
+    }
+
+    #[test]
+    fn two_exchanges_restore_a_proof(rt: HostRuntime) -> Result<(), Fail> {
+        let alloc = rt.alloc();
+        let mut proof = example(alloc)?;
+        let (b, z) = (name(alloc, b"b")?, name(alloc, b"z")?);
+        let on = Ref::Item(name(alloc, b"a")?);
+        let mut why = Some(Why::Same { on });
+        assert!(rt; proof.swap_why(&b, &mut why));
+        assert!(rt; why.is_none());
+        assert!(rt; proof.swap_why(&b, &mut why));
+        assert!(rt; matches!(why, Some(Why::Same { .. })));
+        assert!(rt; matches!(proof.find(&b), Some(Item::Line { why: None, .. })));
+        assert!(rt; !proof.swap_why(&z, &mut why));
+        assert!(rt; matches!(why, Some(Why::Same { .. })));
         Ok(())
     }
 
