@@ -1,6 +1,7 @@
 -- What a proof cites.
-use Rattle.std.specs.Prelude.{ℕ, List, [], ◌∷◌, Option, Some, None}
+use Rattle.std.specs.Prelude.{ℕ, Bool, false, nat_eq, List, [], ◌∷◌, Option, Some, None}
 use Rattle.std.specs.List.{flat_map}
+use Rattle.std.specs.Cmp.Lexicographic.{pointwise}
 use Rattle.mu_tree.specs.declared.why.Why.{Why}
 use Rattle.mu_tree.specs.declared.why.Why.TheVariants as why
 use Rattle.mu_proof.specs.declared.item.Item.{Item}
@@ -8,6 +9,16 @@ use Rattle.mu_proof.specs.declared.item.Item.TheOpen.{Item-F, Line, Block}
 use Rattle.mu_proof.specs.declared.item.Item.TheFolds.{fold-Item}
 use Rattle.mu_check.specs.declared.citing.Cited.{Cited}
 use Rattle.mu_check.specs.declared.citing.Cited.TheVariants as cited
+
+-- whether what is cited is the rule of this name
+abbrev pub is_rule : List ℕ → Cited → Bool
+is_rule name (cited.Rule x) = pointwise nat_eq x name
+is_rule name (cited.Morphism m) = false
+
+-- whether what is cited is the morphism of this name
+abbrev pub is_morphism : List ℕ → Cited → Bool
+is_morphism name (cited.Rule x) = false
+is_morphism name (cited.Morphism m) = pointwise nat_eq m name
 
 -- the morphism that translates a rule, where one does
 abbrev pub morphism_cited : Option (List ℕ) → List Cited

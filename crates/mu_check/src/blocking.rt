@@ -1,15 +1,14 @@
-ghost use Rattle.std.specs.Prelude.{◌≡◌, ◌++◌, IfOk, OnOk, not};
-ghost use Rattle.std.specs.List.{list_any, flat_map};
-ghost use Rattle.mu_decl.specs.Claims.{type_occurrences};
+ghost use Rattle.std.specs.Prelude.{◌≡◌, IfOk};
+ghost use Rattle.std.specs.List.{list_any};
 ghost use Rattle.mu_check.specs.Blocks.{shadows, block_formed, block_cause};
 
 use crate::allowed::Allowed;
 use crate::cause::Cause;
 use crate::instancing::are_known;
 use mu_decl::{
-    Context, Occurrences, add_expressions, all_formed, all_occurrences, occurrences, types_formed,
+    Context, add_expressions, add_type_occurrences, all_formed, all_occurrences, types_formed,
 };
-use mu_tree::{Kind, Names, NoMemory, Sequence, Tree, TypedVar};
+use mu_tree::{Names, NoMemory, Sequence, Tree, TypedVar};
 use std::alloc::Global;
 
 fn shadow(scope: &Names, vars: &[TypedVar]) -> bool
@@ -34,20 +33,6 @@ fn block_formed<C: Context>(
         return Ok(false);
     }
     all_formed(alloc, context, &allowed.seen, &mut inner, assumptions)
-}
-
-fn add_type_occurrences<C: Context>(
-    alloc: Global,
-    context: &C,
-    vars: &[TypedVar],
-    found: &mut Occurrences,
-) -> Result<(), NoMemory>
-    ensures { OnOk result (found.new ≡ found.old ++ flat_map (type_occurrences (C.world context.now)) vars.now) }
-{
-    for var in vars {
-        occurrences(alloc, context, Kind::T, &var.ty, found)?;
-    }
-    Ok(())
 }
 
 /// The first test that a block fails before its items are looked at.

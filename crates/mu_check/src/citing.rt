@@ -1,9 +1,9 @@
-ghost use Rattle.std.specs.Prelude.{◌≡◌, ◌++◌, IfOk, OnOk};
+ghost use Rattle.std.specs.Prelude.{◌≡◌, ◌↔◌, ◌++◌, IfOk, OnOk, IsTrue};
 ghost use Rattle.std.specs.List.{flat_map};
-ghost use Rattle.mu_check.specs.Citations.{cited_by, morphism_cited, item_cites, cites};
+ghost use Rattle.mu_check.specs.Citations.{is_rule, is_morphism, cited_by, morphism_cited, item_cites, cites};
 
 use mu_proof::Item;
-use mu_tree::{Name, NoMemory, Sequence, Why};
+use mu_tree::{Duplicate, Name, NoMemory, Sequence, Why};
 use std::alloc::Global;
 
 /// What a proof cites. Rules and morphisms have names apart from each other.
@@ -12,6 +12,39 @@ pub enum Cited {
     Rule(Name),
     /// The morphism that translates a rule.
     Morphism(Name),
+}
+
+impl Cited {
+    /// Whether this is the rule of a name.
+    pub fn is_rule(&self, name: &Name) -> bool
+        ensures value { result ≡ is_rule name.now self.now }
+        ensures exact { IsTrue result ↔ (self.now ≡ Cited.Rule name.now) }
+    {
+        match self {
+            Cited::Rule(rule) => rule == name,
+            Cited::Morphism(_) => false,
+        }
+    }
+
+    /// Whether this is the morphism of a name.
+    pub fn is_morphism(&self, name: &Name) -> bool
+        ensures value { result ≡ is_morphism name.now self.now }
+        ensures exact { IsTrue result ↔ (self.now ≡ Cited.Morphism name.now) }
+    {
+        match self {
+            Cited::Rule(_) => false,
+            Cited::Morphism(morphism) => morphism == name,
+        }
+    }
+}
+
+impl Duplicate for Cited {
+    fn duplicate(&self, alloc: Global) -> Result<Cited, NoMemory> {
+        match self {
+            Cited::Rule(rule) => Ok(Cited::Rule(rule.copy(alloc)?)),
+            Cited::Morphism(morphism) => Ok(Cited::Morphism(morphism.copy(alloc)?)),
+        }
+    }
 }
 
 /// A list of what is cited.

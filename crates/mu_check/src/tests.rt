@@ -5,8 +5,8 @@ use super::*;
 use mu_decl::{ConstDecl, Context, MorphMap, Own, Statement};
 use mu_proof::{Item, ItemList, Proof};
 use mu_tree::{
-    Claim, Definition, Given, Hyp, Hyps, Inst, Kind, Kinds, Name, Names, NoMemory, Ref, Refs,
-    Shape, Table, Tree, Trees, TypedVar, TypedVars, Why,
+    Claim, Definition, Duplicate, Given, Hyp, Hyps, Inst, Kind, Kinds, Name, Names, NoMemory, Ref,
+    Refs, Shape, Table, Tree, Trees, TypedVar, TypedVars, Why,
 };
 use std::alloc::Global;
 use std::cmp::Ordering;
@@ -493,7 +493,11 @@ fn passes_a_proof_that_is_right(rt: HostRuntime) -> Result<(), Fail> {
     let context = declared(alloc)?;
     assert!(rt; check_proof(alloc, &context, &goal, &proof)?.is_none());
     let cited = cites(alloc, proof.items())?;
-    assert!(rt; cited.items() == [Cited::Rule(name(alloc, b"mp")?)].as_slice());
+    let rule = Cited::Rule(name(alloc, b"mp")?);
+    let twin = rule.duplicate(alloc)?;
+    assert!(rt; cited.items() == [rule].as_slice());
+    assert!(rt; twin.is_rule(&name(alloc, b"mp")?));
+    assert!(rt; !twin.is_morphism(&name(alloc, b"mp")?));
     Ok(())
 }
 
