@@ -22,6 +22,7 @@ pub mod Rows
 mod Runs
 pub mod Simple
 mod Skips
+pub mod Spacing
 pub mod Steps
 pub mod Trees
 pub mod Turns

@@ -12,6 +12,7 @@ pub mod Reasons
 pub mod References
 pub mod Rows
 pub mod SimpleParts
+pub mod Spacing
 pub mod Tokens
 pub mod Trees
 pub mod Writings
