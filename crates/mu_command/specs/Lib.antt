@@ -1,4 +1,5 @@
 pub mod Forms
 pub mod Grammar
 pub mod Parts
+pub mod Plain
 pub mod Readings

@@ -4,16 +4,12 @@ ghost use Rattle.mu_text.specs.declared.token.Token.{Token};
 ghost use Rattle.mu_text.specs.Reading.{text_of};
 ghost use Rattle.mu_command.specs.declared.line.Reading.TheVariants as Reading;
 ghost use Rattle.mu_command.specs.Readings.{AreWithin, ReadingIsExact, column, column_behind, is_past, is_short_token, reading_of, segments_of};
-ghost use Rattle.mu_tree.specs.Names.{is_short as short_test};
 
 use crate::command::Command;
 use crate::reading::read_command;
 use mu_text::{Excess, Fault, Measured, Reader, Token, TokenSort, Tokens, text};
-use mu_tree::NoMemory;
+use mu_tree::{NoMemory, is_short};
 use std::alloc::Global;
-
-/// The most bytes of a segment of a name.
-const LONGEST_SEGMENT: usize = 64;
 
 /// What a line reads as.
 #[derive(Debug, Drop)]
@@ -72,14 +68,6 @@ fn are_short(line: &[u8], tokens: &[Token]) -> bool
     ensures { result ≡ list_all (is_short_token line.now) tokens.now }
 {
     tokens.iter().all(|token| is_short(segments(line, *token)))
-}
-
-/// Whether no segment of the text has more bytes than a name may have.
-fn is_short(text: &[u8]) -> bool
-    ensures { result ≡ short_test text.now }
-{
-    text.split(|byte| *byte == b'.')
-        .all(|segment| segment.len() <= LONGEST_SEGMENT)
 }
 
 /// The part of a token's bytes that is made of segments.
