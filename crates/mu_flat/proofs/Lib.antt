@@ -1,0 +1,9 @@
+pub mod Circles
+pub mod CitedMarks
+pub mod Citing
+pub mod Contexts
+pub mod FirstCircle
+pub mod Keeping
+pub mod ProofTables
+pub mod Refusals
+pub mod Validity

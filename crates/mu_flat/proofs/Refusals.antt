@@ -1,0 +1,59 @@
+-- Why an edit of a proof is refused, and which edit it is.
+use Rattle.std.proofs.Common.{◌≡◌, sym, ap, ◌∙◌, ℕ, true, List, Option, Some, None}
+use Rattle.std.specs.Prelude.{◌≢◌, option_and_then, Result, Ok, Err, IfErr, OnErr, IsErrAnd}
+use Rattle.std.specs.Option.{option_map}
+use Rattle.std.proofs.lemmas.Bool.{false≢true, cond-true}
+use Rattle.mu_tree.specs.declared.refusal.Refusal.{Refusal}
+use Rattle.mu_tree.specs.declared.refusal.Refusal.TheVariants.{Unknown, Taken, Circle, TooMany}
+use Rattle.mu_tree.specs.declared.refusal.Count.TheVariants as count
+use Rattle.mu_tree.specs.declared.why.Why.{Why}
+use Rattle.mu_proof.specs.Proofs.{is_line_label, insert_fault, inserted}
+use Rattle.mu_proof.specs.declared.fault.ProofFault.{ProofFault}
+use Rattle.mu_proof.specs.declared.fault.ProofFault.TheVariants as fault
+use Rattle.mu_proof.specs.declared.item.Item.{Item}
+use Rattle.mu_flat.specs.Citations.{ProofsOf, has_line_at, proof_at, with_reason_at, first_circle}
+use Rattle.mu_flat.specs.Edits.{refused_by, insert_refusal, line_refusal, with_line_in, with_line, reason_refusal, cite_refusal, edit_fault}
+use Rattle.mu_flat.specs.Entries.{Entries, with_items}
+use Rattle.mu_flat.specs.declared.fault.EditFault.TheVariants as edit
+
+module _ (e : Entries) (rule proof label : List ℕ) (why : Why) where
+  -- where the line is there, the edit is refused by the first circle alone
+  pub circle_alone : has_line_at label (proof_at e.proofs rule proof) ≡ true → cite_refusal e rule proof label why ≡ option_map Circle (first_circle (with_reason_at e.proofs rule proof label (Some why)))
+  circle_alone there = go (proof_at e.proofs rule proof) there
+    where
+      go : (found : Option (List Item)) → has_line_at label found ≡ true → reason_refusal e rule proof label why found ≡ option_map Circle (first_circle (with_reason_at e.proofs rule proof label (Some why)))
+      go None h = absurd (false≢true h)
+      go (Some items) h = cond-true (is_line_label items label) (option_map Circle (first_circle (with_reason_at e.proofs rule proof label (Some why)))) (Some (Unknown label)) h
+
+  -- so what is told of the proofs after the edit tells whether it is refused
+  pub circle_told : (proofs : ProofsOf) (first : Option (List ℕ)) → has_line_at label (proof_at e.proofs rule proof) ≡ true → proofs ≡ with_reason_at e.proofs rule proof label (Some why) → first ≡ first_circle proofs
+      → cite_refusal e rule proof label why ≡ option_map Circle first
+  circle_told proofs first there is told = circle_alone there ∙ ap (option_map Circle) (ap first_circle (sym is) ∙ sym told)
+
+-- a fault that is a refusal is no want of memory
+refused_so : (blame : ProofFault) (refusal : Refusal) → edit_fault blame ≡ edit.Refused refusal → (refused_by blame ≡ Some refusal) × (blame ≡ fault.NoMemory → ⊥)
+refused_so (fault.Unknown name) refusal is = let same : Unknown name ≡ refusal = cc in (ap Some same, λ e. absurd (cc))
+refused_so (fault.Taken name) refusal is = let same : Taken name ≡ refusal = cc in (ap Some same, λ e. absurd (cc))
+refused_so fault.Items refusal is = let same : TooMany count.Items ≡ refusal = cc in (ap Some same, λ e. absurd (cc))
+refused_so fault.NoMemory refusal is = absurd (cc)
+
+module _ (e : Entries) (rule proof : List ℕ) (before : Option (List ℕ)) (items : List Item) (there : proof_at e.proofs rule proof ≡ Some items) where
+  -- where the proof is there, a fault of its edit is told
+  pub line_refused : (block label : List ℕ) (blame : ProofFault) (refusal : Refusal) → (blame ≢ fault.NoMemory → insert_fault items block before label ≡ Some blame) → edit_fault blame ≡ edit.Refused refusal
+      → line_refusal e rule proof block before label ≡ Some refusal
+  line_refused block label blame refusal told is =
+      let so = refused_so blame refusal is in
+      ap (insert_refusal proof block before label) there ∙ ap (option_and_then refused_by) (told so.1) ∙ so.0
+
+  -- and the edit is that of the proof
+  pub line_there : (line : Item) → with_line e rule proof before line ≡ with_items e rule proof (inserted items before line)
+  line_there line = ap (with_line_in e rule proof before line) there
+
+-- what follows of each fault that a result may have follows of the result
+pub if_faulted : {T F : Type 0} (P Q : F → Type 0) (result : Result T F) → ((blame : F) → P blame → Q blame) → IsErrAnd result P → IfErr result Q
+if_faulted P Q (Ok x) follows told = tt
+if_faulted P Q (Err blame) follows told = follows blame told
+
+pub on_fault : {T F P : Type 0} (result : Result T F) → P → OnErr result P
+on_fault (Ok x) p = tt
+on_fault (Err blame) p = p
