@@ -1,0 +1,74 @@
+-- When a command is refused, and what it changes.
+use Rattle.std.specs.Prelude.{◌≡◌, ℕ, Bool, true, false, if◌then◌else◌, List, [], Option, Some, None, Result, Ok, Err, is_some}
+use Rattle.std.specs.Option.{option_or}
+use Rattle.std.specs.FinMap as finite
+use Rattle.mu_tree.specs.declared.refusal.Refusal.{Refusal}
+use Rattle.mu_tree.specs.declared.refusal.Refusal.TheVariants.{Unknown, Taken}
+use Rattle.mu_tree.specs.declared.claim.Shape.TheVariants as shape
+use Rattle.mu_proof.specs.declared.item.Item.TheVariants as item
+use Rattle.mu_decl.specs.declared.declaration.Statement.{Statement}
+use Rattle.mu_flat.specs.declared.fault.EditFault.{EditFault}
+use Rattle.mu_flat.specs.declared.fault.EditFault.TheVariants as fault
+use Rattle.mu_flat.specs.Base.{is_base, is_base_constant}
+use Rattle.mu_flat.specs.Citations.{proof_at}
+use Rattle.mu_flat.specs.Edits.{line_refusal, with_line, with_reason, cite_refusal}
+use Rattle.mu_flat.specs.Entries.{Entries, IsPlain, with_theory, with_constant, with_rule, with_items}
+use Rattle.mu_command.specs.declared.command.Command.{Command}
+use Rattle.mu_command.specs.declared.command.Command.TheVariants.{Theory, Constant, Axiom, Rule, Proof, Line, Cite, Status}
+
+-- a name must be there
+abbrev pub unknown_unless : Bool → List ℕ → Option Refusal
+unknown_unless there name = if there then None else Some (Unknown name)
+
+-- a new name must not be there
+abbrev pub taken_where : Bool → List ℕ → Option Refusal
+taken_where there name = if there then Some (Taken name) else None
+
+-- the theory of what is declared must be there, and then its name must not
+abbrev pub declared_refusal : Entries → List ℕ → Bool → List ℕ → Option Refusal
+declared_refusal e unit there name = option_or (unknown_unless (finite.contains_key e.theories unit) unit) (taken_where there name)
+
+-- why a command is refused: the first reason that fits
+unfoldable pub refusal : Entries → Command → Option Refusal
+refusal e (Theory unit) = taken_where (finite.contains_key e.theories unit) unit
+refusal e (Constant unit name arguments result) = declared_refusal e unit (finite.contains_key e.constants name) name
+refusal e (Axiom unit rule claim) = declared_refusal e unit (finite.contains_key e.rules rule) rule
+refusal e (Rule unit rule claim) = declared_refusal e unit (finite.contains_key e.rules rule) rule
+refusal e (Proof rule proof) = taken_where (is_some (proof_at e.proofs rule proof)) proof
+refusal e (Line rule proof label block before tree) = line_refusal e rule proof block before label
+refusal e (Cite rule proof label why) = cite_refusal e rule proof label why
+refusal e (Status rule) = None
+
+-- the store after a command that is not refused
+unfoldable pub changed : Entries → Command → Entries
+changed e (Theory unit) = with_theory e unit
+changed e (Constant unit name arguments result) = with_constant e name (record { theory = unit; shape = shape.Plain arguments; result = result })
+changed e (Axiom unit rule claim) = with_rule e rule (record { theory = unit; is_axiom = true; claim = claim })
+changed e (Rule unit rule claim) = with_rule e rule (record { theory = unit; is_axiom = false; claim = claim })
+changed e (Proof rule proof) = with_items e rule proof []
+changed e (Line rule proof label block before tree) = with_line e rule proof before (item.Line label tree None)
+changed e (Cite rule proof label why) = with_reason e rule proof label why
+changed e (Status rule) = e
+
+-- what a command would store may be stored: what it declares has a plain name that is not the base theory's
+abbrev pub IsStorable : Command → Type 0
+IsStorable (Theory unit) = IsPlain unit × (is_base unit ≡ false)
+IsStorable (Constant unit name arguments result) = IsPlain name × (is_base_constant name ≡ false)
+IsStorable (Axiom unit rule claim) = IsPlain rule
+IsStorable (Rule unit rule claim) = IsPlain rule
+IsStorable (Proof rule proof) = Unit {0}
+IsStorable (Line rule proof label block before tree) = Unit {0}
+IsStorable (Cite rule proof label why) = Unit {0}
+IsStorable (Status rule) = Unit {0}
+
+-- what carrying out a command leads to: it is not refused and the store is changed, or it is refused by its first reason, or memory ran out; in these the store is as it was
+abbrev pub Applies : Entries → Entries → Command → Result (Unit {0}) EditFault → Type 0
+Applies old new c (Ok done) = (refusal old c ≡ None) × (new ≡ changed old c)
+Applies old new c (Err (fault.Refused refused)) = (refusal old c ≡ Some refused) × (new ≡ old)
+Applies old new c (Err fault.NoMemory) = new ≡ old
+
+-- what stating a rule leads to, in the same way
+abbrev pub States : Entries → Entries → List ℕ → Statement → Result (Unit {0}) EditFault → Type 0
+States old new rule s (Ok done) = (declared_refusal old s.theory (finite.contains_key old.rules rule) rule ≡ None) × (new ≡ with_rule old rule s)
+States old new rule s (Err (fault.Refused refused)) = (declared_refusal old s.theory (finite.contains_key old.rules rule) rule ≡ Some refused) × (new ≡ old)
+States old new rule s (Err fault.NoMemory) = new ≡ old

@@ -1,0 +1,6 @@
+//! Commands carried out on a store: when each is refused, and what it changes.
+#![tactic(auto)]
+
+mod applying;
+
+pub use applying::apply;
