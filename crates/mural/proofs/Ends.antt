@@ -4,7 +4,7 @@ use Rattle.std.proofs.lemmas.List.{append-nil, take-take}
 use Rattle.std.specs.Io.KnownBytes.{prepend_known, IsAtEnd}
 use Rattle.mu_outside.specs.Seen.{Seen, Rose}
 use Rattle.mural.specs.Lines.{whole_lines, lines, due_lines, most_input}
-use Rattle.mural.specs.Stores.{Entries, nothing}
+use Rattle.mu_flat.specs.Entries.{Entries, initial}
 use Rattle.mural.specs.Replies.{replies, some_refused, replies_to}
 use Rattle.mural.specs.Served.{Served, TellsFront}
 use Rattle.mural.specs.Ended.{Ended, HasRisen, IsComplete, IsDone, of_stop, of_refused}
@@ -67,8 +67,8 @@ input_ends left0 left1 left2 bytes buf input n before is end now =
     no_bytes (b ∷ l) e = absurd (omega arith)
 
 -- the lines of an input that is not too long are due
-pub all_due : (input bytes : List ℕ) → input ≡ bytes → length bytes ≤ most_input → replies nothing (lines bytes) ≡ replies_to input
-all_due input bytes same le = ap (replies nothing) (sym (ap due_lines same ∙ due_short bytes le))
+pub all_due : (input bytes : List ℕ) → input ≡ bytes → length bytes ≤ most_input → replies initial (lines bytes) ≡ replies_to input
+all_due input bytes same le = ap (replies initial) (sym (ap due_lines same ∙ due_short bytes le))
 
 pub ended_stop : (input : List ℕ) (start : Option (List ℕ)) (now : Seen) (why : Stop) (status : Status) → status ≡ of_stop why → TellsFront start (due_lines input) now.told → Ended input start now status
 ended_stop input start now stop.TellFault status is front = subst (Ended input start now) (sym is) front

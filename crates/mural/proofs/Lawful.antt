@@ -1,14 +1,13 @@
 -- The laws hold.
-use Rattle.mural.specs.Grammar.{lexemes}
+use Rattle.mu_status.specs.Statuses.{StatusesAreExact}
+use Rattle.mu_status.proofs.Standing.{statuses_are_exact}
+use Rattle.mu_command.specs.Readings.{ReadingIsExact}
+use Rattle.mu_command.proofs.Lines.{reading_is_exact}
+use Rattle.mu_command.proofs.Spacing.{spaced_reads}
+use Rattle.mu_flat.proofs.FirstCircle.{circles_are_exact}
 use Rattle.mural.specs.Laws.{Laws}
-use Rattle.mural.proofs.Canonical.{canonical}
-use Rattle.mural.proofs.Readings.{names_spelled, command_reads, reads_command, one_command}
-use Rattle.mural.proofs.Standing.{has_status}
+use Rattle.mural.proofs.Acyclic.{reached_acyclic}
 
 pub laws_hold : Laws
-laws_hold = record {
-  reading = λ line command. (command_reads (lexemes line) command, λ reads. reads_command (lexemes line) command (names_spelled line) reads.0 reads.1);
-  one_command = one_command;
-  canonical = canonical;
-  status = has_status;
-}
+unfolding ReadingIsExact StatusesAreExact
+laws_hold = record { reading = reading_is_exact; canonical = spaced_reads; statuses = statuses_are_exact; circles = circles_are_exact; acyclic = reached_acyclic }

@@ -1,11 +1,7 @@
-mod Canonical
+mod Acyclic
 mod Ends
-mod Forms
 mod Known
 mod Lawful
 mod Pieces
-mod Readings
-mod Scans
 mod Serving
-mod Standing
-mod Validity
+mod Storable

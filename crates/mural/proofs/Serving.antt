@@ -8,7 +8,7 @@ use Rattle.std.proofs.lemmas.List.{append-nil, take_all, take_more, length-take,
 use Rattle.std.proofs.lemmas.List.Folds.{list_any-append}
 use Rattle.std.specs.Io.KnownBytes.{append_known}
 use Rattle.mural.specs.Lines.{is_line_feed, whole_lines, unfinished, last_line, lines}
-use Rattle.mural.specs.Stores.{Entries, nothing}
+use Rattle.mu_flat.specs.Entries.{Entries, initial}
 use Rattle.mural.specs.Replies.{Answer, no_command, longest_line, answer, replies, entries_after, told_for, told_bytes, refuses, some_refused}
 use Rattle.mural.specs.Served.{Served, IsFront, TellsFront, kept_length}
 use Rattle.mural.specs.declared.reply.Reply.{Reply}
@@ -26,9 +26,9 @@ entries_after-append entries (x ∷ xs) ys = entries_after-append (answer entrie
 told_bytes-append : (xs ys : List (Option Reply)) → told_bytes (xs ++ ys) ≡ told_bytes xs ++ told_bytes ys
 told_bytes-append = flat_map-append told_for
 
-too_long : (entries : Entries) (line : List ℕ) → longest_line < length line → answer entries line ≡ no_command entries
+too_long : (entries : Entries) (line : List ℕ) → longest_line < length line → answer entries line ≡ no_command entries 1
 unfolding answer
-too_long entries line lt = cond-true (nat_lt longest_line (length line)) (no_command entries) _ (lt-ltb longest_line (length line) lt)
+too_long entries line lt = cond-true (nat_lt longest_line (length line)) (no_command entries 1) _ (lt-ltb longest_line (length line) lt)
 
 -- a line that is too long is answered by its first bytes alone
 pub answer_kept : (entries : Entries) (line : List ℕ) → answer entries (take kept_length line) ≡ answer entries line
@@ -40,31 +40,31 @@ answer_kept entries line = elim (leb_tells (length line) longest_line) [
 ]
 
 -- the first bytes of a reply after those of the replies before it
-pub front_more : (start told0 told1 : Option (List ℕ)) (xs ys : List (List ℕ)) (front : List ℕ) → told0 ≡ append_known start (told_bytes (replies nothing xs)) → told1 ≡ append_known told0 front
-    → IsFront front (told_bytes (replies (entries_after nothing xs) ys)) → TellsFront start (xs ++ ys) told1
+pub front_more : (start told0 told1 : Option (List ℕ)) (xs ys : List (List ℕ)) (front : List ℕ) → told0 ≡ append_known start (told_bytes (replies initial xs)) → told1 ≡ append_known told0 front
+    → IsFront front (told_bytes (replies (entries_after initial xs) ys)) → TellsFront start (xs ++ ys) told1
 front_more start told0 told1 xs ys front so_far more is =
-    let done = told_bytes (replies nothing xs) in (
+    let done = told_bytes (replies initial xs) in (
       done ++ front,
       more ∙ ap (λ (k : Option (List ℕ)). append_known k front) so_far ∙ append_twice start done front,
-      (is.0, append_assoc done front is.0 ∙ ap (λ (l : List ℕ). done ++ l) is.1 ∙ sym (told_bytes-append (replies nothing xs) (replies (entries_after nothing xs) ys)) ∙ ap told_bytes (sym (replies-append nothing xs ys))),
+      (is.0, append_assoc done front is.0 ∙ ap (λ (l : List ℕ). done ++ l) is.1 ∙ sym (told_bytes-append (replies initial xs) (replies (entries_after initial xs) ys)) ∙ ap told_bytes (sym (replies-append initial xs ys))),
     )
 
 -- what is told of some lines is told of these and others
 pub front_longer : (start told : Option (List ℕ)) (xs ys : List (List ℕ)) → TellsFront start xs told → TellsFront start (xs ++ ys) told
 front_longer start told xs ys is =
-    let others = told_bytes (replies (entries_after nothing xs) ys) in (
+    let others = told_bytes (replies (entries_after initial xs) ys) in (
       is.0,
       is.1,
       (
         is.2.0 ++ others,
         sym (append_assoc is.0 is.2.0 others) ∙ ap (λ (l : List ℕ). l ++ others) is.2.1
-            ∙ sym (told_bytes-append (replies nothing xs) (replies (entries_after nothing xs) ys)) ∙ ap told_bytes (sym (replies-append nothing xs ys)),
+            ∙ sym (told_bytes-append (replies initial xs) (replies (entries_after initial xs) ys)) ∙ ap told_bytes (sym (replies-append initial xs ys)),
       ),
     )
 
 -- all of the replies to some lines
-pub front_all : (start told : Option (List ℕ)) (xs : List (List ℕ)) → told ≡ append_known start (told_bytes (replies nothing xs)) → TellsFront start xs told
-front_all start told xs is = (told_bytes (replies nothing xs), is, ([], append-nil (told_bytes (replies nothing xs))))
+pub front_all : (start told : Option (List ℕ)) (xs : List (List ℕ)) → told ≡ append_known start (told_bytes (replies initial xs)) → TellsFront start xs told
+front_all start told xs is = (told_bytes (replies initial xs), is, ([], append-nil (told_bytes (replies initial xs))))
 
 kept_short : (line : List ℕ) → length (take kept_length line) ≤ longest_line → length line ≤ longest_line
 kept_short line le = elim (leb_tells (length line) longest_line) [
@@ -98,31 +98,31 @@ module _ (start : Option (List ℕ)) (bytes : List ℕ) (entries : Entries) (lin
   abbrev kept : Answer
   kept = answer entries line
 
-  answer_is : kept ≡ answer (entries_after nothing (whole_lines bytes)) (unfinished bytes)
+  answer_is : kept ≡ answer (entries_after initial (whole_lines bytes)) (unfinished bytes)
   answer_is = ap (answer entries) served.line_is ∙ answer_kept entries (unfinished bytes) ∙ ap (λ (e : Entries). answer e (unfinished bytes)) served.entries_are
 
   abbrev last : Answer
-  last = answer (entries_after nothing (whole_lines bytes)) (unfinished bytes)
+  last = answer (entries_after initial (whole_lines bytes)) (unfinished bytes)
 
-  more : replies nothing (whole_lines bytes ++ unfinished bytes ∷ []) ≡ replies nothing (whole_lines bytes) ++ last.reply ∷ []
-  more = replies-append nothing (whole_lines bytes) (unfinished bytes ∷ [])
+  more : replies initial (whole_lines bytes ++ unfinished bytes ∷ []) ≡ replies initial (whole_lines bytes) ++ last.reply ∷ []
+  more = replies-append initial (whole_lines bytes) (unfinished bytes ∷ [])
 
   -- the line in hand is answered
-  pub entries_one : (new : Entries) → new ≡ kept.entries → new ≡ entries_after nothing (whole_lines bytes ++ unfinished bytes ∷ [])
-  entries_one new is = is ∙ ap (λ (a : Answer). a.entries) answer_is ∙ sym (entries_after-append nothing (whole_lines bytes) (unfinished bytes ∷ []))
+  pub entries_one : (new : Entries) → new ≡ kept.entries → new ≡ entries_after initial (whole_lines bytes ++ unfinished bytes ∷ [])
+  entries_one new is = is ∙ ap (λ (a : Answer). a.entries) answer_is ∙ sym (entries_after-append initial (whole_lines bytes) (unfinished bytes ∷ []))
 
-  pub refused_one : (new : Bool) → new ≡ (refused || refuses kept.reply) → new ≡ some_refused (replies nothing (whole_lines bytes ++ unfinished bytes ∷ []))
+  pub refused_one : (new : Bool) → new ≡ (refused || refuses kept.reply) → new ≡ some_refused (replies initial (whole_lines bytes ++ unfinished bytes ∷ []))
   refused_one new is =
-      is ∙ ap (λ (b : Bool). b || refuses kept.reply) served.refused_is ∙ ap (λ (a : Answer). some_refused (replies nothing (whole_lines bytes)) || refuses a.reply) answer_is
-      ∙ ap (λ (b : Bool). some_refused (replies nothing (whole_lines bytes)) || b) (sym (or_false (refuses last.reply)))
-      ∙ sym (list_any-append refuses (replies nothing (whole_lines bytes)) (last.reply ∷ [])) ∙ ap some_refused (sym more)
+      is ∙ ap (λ (b : Bool). b || refuses kept.reply) served.refused_is ∙ ap (λ (a : Answer). some_refused (replies initial (whole_lines bytes)) || refuses a.reply) answer_is
+      ∙ ap (λ (b : Bool). some_refused (replies initial (whole_lines bytes)) || b) (sym (or_false (refuses last.reply)))
+      ∙ sym (list_any-append refuses (replies initial (whole_lines bytes)) (last.reply ∷ [])) ∙ ap some_refused (sym more)
 
-  pub told_one : (new : Option (List ℕ)) → new ≡ append_known told (told_for kept.reply) → new ≡ append_known start (told_bytes (replies nothing (whole_lines bytes ++ unfinished bytes ∷ [])))
+  pub told_one : (new : Option (List ℕ)) → new ≡ append_known told (told_for kept.reply) → new ≡ append_known start (told_bytes (replies initial (whole_lines bytes ++ unfinished bytes ∷ [])))
   told_one new is =
-      is ∙ ap (λ (k : Option (List ℕ)). append_known k (told_for kept.reply)) served.told_is ∙ append_twice start (told_bytes (replies nothing (whole_lines bytes))) (told_for kept.reply)
-      ∙ ap (λ (a : Answer). append_known start (told_bytes (replies nothing (whole_lines bytes)) ++ told_for a.reply)) answer_is
-      ∙ ap (λ (l : List ℕ). append_known start (told_bytes (replies nothing (whole_lines bytes)) ++ l)) (sym (append-nil (told_for last.reply)))
-      ∙ ap (append_known start) (sym (told_bytes-append (replies nothing (whole_lines bytes)) (last.reply ∷ [])) ∙ ap told_bytes (sym more))
+      is ∙ ap (λ (k : Option (List ℕ)). append_known k (told_for kept.reply)) served.told_is ∙ append_twice start (told_bytes (replies initial (whole_lines bytes))) (told_for kept.reply)
+      ∙ ap (λ (a : Answer). append_known start (told_bytes (replies initial (whole_lines bytes)) ++ told_for a.reply)) answer_is
+      ∙ ap (λ (l : List ℕ). append_known start (told_bytes (replies initial (whole_lines bytes)) ++ l)) (sym (append-nil (told_for last.reply)))
+      ∙ ap (append_known start) (sym (told_bytes-append (replies initial (whole_lines bytes)) (last.reply ∷ [])) ∙ ap told_bytes (sym more))
 
   pub front_one : (new : Option (List ℕ)) (n : ℕ) → new ≡ append_known told (take n (told_for kept.reply)) → TellsFront start (whole_lines bytes ++ unfinished bytes ∷ []) new
   front_one new n is =
@@ -135,10 +135,10 @@ module _ (start : Option (List ℕ)) (bytes : List ℕ) (entries : Entries) (lin
   served_feed byte new rest now tells is entries_is rest_is refused_is told_is =
       let whole = sym (whole_lines_feed bytes byte is) in
       record {
-        entries_are = entries_one new entries_is ∙ ap (entries_after nothing) whole;
+        entries_are = entries_one new entries_is ∙ ap (entries_after initial) whole;
         line_is = rest_is ∙ ap (take kept_length) (sym (unfinished_feed bytes byte is));
-        refused_is = refused_one now refused_is ∙ ap (λ (l : List (List ℕ)). some_refused (replies nothing l)) whole;
-        told_is = told_one tells told_is ∙ ap (λ (l : List (List ℕ)). append_known start (told_bytes (replies nothing l))) whole;
+        refused_is = refused_one now refused_is ∙ ap (λ (l : List (List ℕ)). some_refused (replies initial l)) whole;
+        told_is = told_one tells told_is ∙ ap (λ (l : List (List ℕ)). append_known start (told_bytes (replies initial l))) whole;
       }
 
   pub front_feed : (byte n : ℕ) (tells : Option (List ℕ)) → is_line_feed byte ≡ true → tells ≡ append_known told (take n (told_for kept.reply)) → TellsFront start (whole_lines (bytes ++ byte ∷ [])) tells
@@ -150,10 +150,10 @@ module _ (start : Option (List ℕ)) (bytes : List ℕ) (entries : Entries) (lin
   served_byte byte new rest now tells not entries_is rest_is refused_is told_is =
       let whole = sym (whole_lines_byte bytes byte not) in
       record {
-        entries_are = entries_is ∙ served.entries_are ∙ ap (entries_after nothing) whole;
+        entries_are = entries_is ∙ served.entries_are ∙ ap (entries_after initial) whole;
         line_is = rest_is ∙ ap (take kept_length) (sym (unfinished_byte bytes byte not));
-        refused_is = refused_is ∙ served.refused_is ∙ ap (λ (l : List (List ℕ)). some_refused (replies nothing l)) whole;
-        told_is = told_is ∙ served.told_is ∙ ap (λ (l : List (List ℕ)). append_known start (told_bytes (replies nothing l))) whole;
+        refused_is = refused_is ∙ served.refused_is ∙ ap (λ (l : List (List ℕ)). some_refused (replies initial l)) whole;
+        told_is = told_is ∙ served.told_is ∙ ap (λ (l : List (List ℕ)). append_known start (told_bytes (replies initial l))) whole;
       }
 
   -- the line in hand has room for a byte, or is too long already
@@ -178,17 +178,17 @@ module _ (start : Option (List ℕ)) (bytes : List ℕ) (entries : Entries) (lin
   one_more : 0 < length line → whole_lines bytes ++ unfinished bytes ∷ [] ≡ lines bytes
   one_more some = ap (λ (l : List (List ℕ)). whole_lines bytes ++ l) (sym (last_line_is (unfinished bytes) (kept_some (unfinished bytes) (subst (λ (l : List ℕ). 0 < length l) served.line_is some))))
 
-  pub told_nothing : line ≡ [] → (tells : Option (List ℕ)) → tells ≡ told → tells ≡ append_known start (told_bytes (replies nothing (lines bytes)))
-  told_nothing is tells told_is = told_is ∙ served.told_is ∙ ap (λ (l : List (List ℕ)). append_known start (told_bytes (replies nothing l))) (all_lines is)
+  pub told_nothing : line ≡ [] → (tells : Option (List ℕ)) → tells ≡ told → tells ≡ append_known start (told_bytes (replies initial (lines bytes)))
+  told_nothing is tells told_is = told_is ∙ served.told_is ∙ ap (λ (l : List (List ℕ)). append_known start (told_bytes (replies initial l))) (all_lines is)
 
-  pub refused_nothing : line ≡ [] → refused ≡ some_refused (replies nothing (lines bytes))
-  refused_nothing is = served.refused_is ∙ ap (λ (l : List (List ℕ)). some_refused (replies nothing l)) (all_lines is)
+  pub refused_nothing : line ≡ [] → refused ≡ some_refused (replies initial (lines bytes))
+  refused_nothing is = served.refused_is ∙ ap (λ (l : List (List ℕ)). some_refused (replies initial l)) (all_lines is)
 
-  pub told_last : 0 < length line → (tells : Option (List ℕ)) → tells ≡ append_known told (told_for kept.reply) → tells ≡ append_known start (told_bytes (replies nothing (lines bytes)))
-  told_last some tells is = told_one tells is ∙ ap (λ (l : List (List ℕ)). append_known start (told_bytes (replies nothing l))) (one_more some)
+  pub told_last : 0 < length line → (tells : Option (List ℕ)) → tells ≡ append_known told (told_for kept.reply) → tells ≡ append_known start (told_bytes (replies initial (lines bytes)))
+  told_last some tells is = told_one tells is ∙ ap (λ (l : List (List ℕ)). append_known start (told_bytes (replies initial l))) (one_more some)
 
-  pub refused_last : 0 < length line → (now : Bool) → now ≡ (refused || refuses kept.reply) → now ≡ some_refused (replies nothing (lines bytes))
-  refused_last some now is = refused_one now is ∙ ap (λ (l : List (List ℕ)). some_refused (replies nothing l)) (one_more some)
+  pub refused_last : 0 < length line → (now : Bool) → now ≡ (refused || refuses kept.reply) → now ≡ some_refused (replies initial (lines bytes))
+  refused_last some now is = refused_one now is ∙ ap (λ (l : List (List ℕ)). some_refused (replies initial l)) (one_more some)
 
   pub front_last : 0 < length line → (tells : Option (List ℕ)) (n : ℕ) → tells ≡ append_known told (take n (told_for kept.reply)) → TellsFront start (lines bytes) tells
   front_last some tells n is = subst (λ (l : List (List ℕ)). TellsFront start l tells) (one_more some) (front_one tells n is)

@@ -3,7 +3,7 @@ use Rattle.std.specs.Prelude.{◌≡◌, ◌⊎◌, ℕ, ◌≤◌, ◌<◌, Boo
 use Rattle.std.specs.Io.KnownBytes.{append_known}
 use Rattle.mu_outside.specs.Seen.{Seen, Rose}
 use Rattle.mural.specs.Lines.{whole_lines, due_lines, most_input}
-use Rattle.mural.specs.Stores.{nothing}
+use Rattle.mu_flat.specs.Entries.{initial}
 use Rattle.mural.specs.Replies.{replies, replies_to, told_bytes, some_refused}
 use Rattle.mural.specs.Served.{TellsFront}
 use Rattle.mural.specs.declared.reader.Stop.{Stop}
@@ -35,7 +35,7 @@ pub record IsDone (input : List ℕ) (start : Option (List ℕ)) (now : Seen) : 
 pub record IsCutOff (input : List ℕ) (start : Option (List ℕ)) (now : Seen) (read rest : List ℕ) : Type 0 where
   pub input_is : input ≡ read ++ rest
   pub left : now.left ≡ Some rest
-  pub told : now.told ≡ append_known start (told_bytes (replies nothing (whole_lines read)))
+  pub told : now.told ≡ append_known start (told_bytes (replies initial (whole_lines read)))
 
 -- what a run over this input has told, by how it ended, after what was told at its start
 abbrev pub Ended : List ℕ → Option (List ℕ) → Seen → Status → Type 0

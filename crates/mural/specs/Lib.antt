@@ -1,13 +1,6 @@
-pub mod Base
-pub mod Codes
-pub mod Commands
-pub mod Grammar
 pub mod Lines
 pub mod Replies
 pub mod Served
-pub mod Statuses
 pub mod Steps
-pub mod Stores
-pub mod Views
 pub mod Ended
 pub mod Laws

@@ -3,12 +3,13 @@ use Rattle.std.specs.Prelude.{ℕ, Bool, true, false, ◌==◌, nat_lt, if◌the
 use Rattle.std.specs.List.{flat_map, list_any}
 use Rattle.mu_tree.specs.declared.refusal.Refusal.TheVariants.{Syntax}
 use Rattle.mu_text.specs.Reading.{is_blank}
+use Rattle.mu_flat.specs.Entries.{Entries, initial}
+use Rattle.mu_command.specs.declared.command.Command.{Command}
+use Rattle.mu_command.specs.declared.line.Reading.{Reading}
+use Rattle.mu_command.specs.declared.line.Reading.TheVariants as reading
+use Rattle.mu_command.specs.Readings.{reading_of}
 use Rattle.mural.specs.Lines.{due_lines}
-use Rattle.mural.specs.Stores.{Entries, nothing}
-use Rattle.mural.specs.Grammar.{lexemes}
-use Rattle.mural.specs.Commands.{command_of}
 use Rattle.mural.specs.Steps.{Outcome, step, told_as, is_refusal, touches_base}
-use Rattle.mural.specs.declared.command.Command.{Command}
 use Rattle.mural.specs.declared.reply.Reply.{Reply}
 use Rattle.mural.specs.declared.reply.Reply.TheVariants.{Refused}
 
@@ -26,24 +27,30 @@ pub record Answer : Type 0 where
   pub entries : Entries
   pub reply : Option Reply
 
--- a line that is no command leaves the store
-abbrev pub no_command : Entries → Answer
-no_command entries = record { entries = entries; reply = Some (Refused (Syntax 1)) }
+-- a line that is no command, from this column on, leaves the store
+abbrev pub no_command : Entries → ℕ → Answer
+no_command entries column = record { entries = entries; reply = Some (Refused (Syntax column)) }
 
 -- a command leads to what its step does
 abbrev pub answered : Outcome → Answer
 answered outcome = record { entries = outcome.entries; reply = Some outcome.reply }
 
--- The base theory is read by no command.
-abbrev pub carry_out : Entries → Option Command → Answer
-carry_out entries None = no_command entries
-carry_out entries (Some command) = if touches_base command then no_command entries else answered (step entries command)
+-- No command declares the base theory or changes it.
+abbrev pub carry_out : Entries → Command → Answer
+carry_out entries command = if touches_base command then no_command entries 1 else answered (step entries command)
+
+-- the answer to a line that is read so: where a limit is passed, it is refused at its first column
+abbrev pub read_out : Entries → Reading → Answer
+read_out entries (reading.Command command) = carry_out entries command
+read_out entries (reading.Past excess) = no_command entries 1
+read_out entries (reading.Refused column) = no_command entries column
+read_out entries reading.LongName = no_command entries 1
 
 -- the answer to a line
 unfoldable pub answer : Entries → List ℕ → Answer
 answer entries line =
-    if nat_lt longest_line (length line) then no_command entries
-    else (if is_quiet line then record { entries = entries; reply = None } else carry_out entries (command_of (lexemes line)))
+    if nat_lt longest_line (length line) then no_command entries 1
+    else (if is_quiet line then record { entries = entries; reply = None } else read_out entries (reading_of line))
 
 -- the replies to lines, one after another: none to a quiet one
 abbrev pub replies : Entries → List (List ℕ) → List (Option Reply)
@@ -75,4 +82,4 @@ some_refused = list_any refuses
 
 -- the replies that are due to an input, from an empty store on
 abbrev pub replies_to : List ℕ → List (Option Reply)
-replies_to input = replies nothing (due_lines input)
+replies_to input = replies initial (due_lines input)

@@ -2,15 +2,10 @@
 #![tactic(auto)]
 
 mod answering;
-mod base;
-mod command;
 mod reader;
-mod reading;
 mod reply;
 mod running;
-mod statement;
 mod status;
-mod store;
 mod telling;
 mod wording;
 

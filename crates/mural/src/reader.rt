@@ -1,15 +1,15 @@
-ghost use Rattle.std.specs.Prelude.{◌≡◌, ◌||◌, ◌++◌, ◌∷◌, [], false, ℕ, ◌≤◌, List, Option, take, OnOk, OnErr, IsErrOf};
+ghost use Rattle.std.specs.Prelude.{◌≡◌, ◌||◌, ◌++◌, ◌∷◌, [], false, ℕ, ◌≤◌, List, Option, take, IfOk, OnOk, OnErr, IsErrOf};
 ghost use Rattle.std.specs.Io.KnownBytes.{append_known};
 ghost use Rattle.mu_outside.specs.Seen.{KeepsButTold, Rose};
 ghost use Rattle.mural.specs.Lines.{whole_lines, lines};
-ghost use Rattle.mural.specs.Stores.{nothing};
+ghost use Rattle.mu_flat.specs.Entries.{initial};
 ghost use Rattle.mural.specs.Replies.{answer, replies, told_for, refuses, some_refused, told_bytes};
-ghost use Rattle.mural.specs.Served.{Served, TellsFront};
+ghost use Rattle.mural.specs.Served.{IsFresh, Served, TellsFront};
 
 use crate::answering::{LONGEST_LINE, answer_line};
-use crate::store::Store;
 use crate::telling::tell_all;
 use crate::wording::{is_refusal, reply_text};
+use mu_flat::Store;
 use mu_outside::{Failed, Outside};
 use mu_tree::NoMemory;
 use std::alloc::{AllocFailed, Global};
@@ -67,16 +67,19 @@ pub(crate) struct Reader {
 }
 
 impl Reader {
-    pub(crate) fn new(alloc: Global) -> Reader
-        ensures store { result.store ≡ nothing }
-        ensures line { result.line.items ≡ [] }
-        ensures refused { result.refused ≡ false }
+    /// A reader that has read nothing, over a store that has the base theory alone.
+    ///
+    /// # Errors
+    ///
+    /// `NoMemory`.
+    pub(crate) fn new(alloc: Global) -> Result<Reader, NoMemory>
+        ensures { IfOk result (λ reader. IsFresh reader.store reader.line.items reader.refused) }
     {
-        Reader {
-            store: Store::new(alloc),
+        Ok(Reader {
+            store: Store::new(alloc)?,
             line: Vec::new(alloc),
             refused: false,
-        }
+        })
     }
 
     /// Answers the line in hand. Its reply is told whole, or after a `TellFault` in part.
@@ -148,10 +151,10 @@ impl Reader {
     pub(crate) fn finish<O: Outside>(&mut self, alloc: Global, out: &mut O) -> Result<(), Stop>
         ensures told { OnOk result ((start : Option (List ℕ)) (bytes : List ℕ)
             → Served start bytes self.old.store self.old.line.items self.old.refused (O.seen out.old).told
-            → (O.seen out.new).told ≡ append_known start (told_bytes (replies nothing (lines bytes)))) }
+            → (O.seen out.new).told ≡ append_known start (told_bytes (replies initial (lines bytes)))) }
         ensures refused { OnOk result ((start : Option (List ℕ)) (bytes : List ℕ)
             → Served start bytes self.old.store self.old.line.items self.old.refused (O.seen out.old).told
-            → self.new.refused ≡ some_refused (replies nothing (lines bytes))) }
+            → self.new.refused ≡ some_refused (replies initial (lines bytes))) }
         ensures front { OnErr result ((start : Option (List ℕ)) (bytes : List ℕ)
             → Served start bytes self.old.store self.old.line.items self.old.refused (O.seen out.old).told
             → TellsFront start (lines bytes) (O.seen out.new).told) }

@@ -2,10 +2,12 @@ ghost use Rattle.std.specs.Prelude.{◌≡◌, ◌≢◌, ◌<◌, ◌↔◌, []
 ghost use Rattle.mu_outside.specs.Seen.{Rose};
 ghost use Rattle.mural.specs.Ended.{Ended, HasRisen, IsComplete, of_stop, of_refused};
 ghost use Rattle.mural.specs.Laws.{Laws};
+ghost use Rattle.mural.specs.Served.{IsFresh};
 
 use crate::reader::{Reader, Stop};
 use crate::status::Status;
 use mu_outside::{Failed, Outside};
+use mu_tree::NoMemory;
 use std::alloc::Global;
 
 /// The most bytes of an input that are read.
@@ -14,14 +16,14 @@ const MOST_INPUT: u64 = 1 << 28;
 /// How many bytes are taken at once, at the most.
 const PIECE: usize = 4096;
 
-/// Answers the lines of the input, one after another, from an empty store on.
-fn serve<O: Outside>(alloc: Global, out: &mut O) -> Status
+/// Answers the lines of the input, one after another, with a reader that has read nothing.
+fn serve<O: Outside>(alloc: Global, out: &mut O, mut reader: Reader) -> Status
+    requires { IsFresh reader.store reader.line.items reader.refused }
     ensures ended { (input : List ℕ) → (O.seen out.old).left ≡ Some input → Ended input (O.seen out.old).told (O.seen out.new) result }
     ensures risen { HasRisen (O.seen out.old) (O.seen out.new) result }
     ensures served { result ≢ Status.Usage }
 {
     let mut piece = [0u8; PIECE];
-    let mut reader = Reader::new(alloc);
     let mut count = 0u64;
     loop {
         let taken = match out.take(&mut piece) {
@@ -90,7 +92,10 @@ pub fn run<O: Outside>(alloc: Global, words: &[String], out: &mut O) -> Status
     if !words.is_empty() {
         return Status::Usage;
     }
-    serve(alloc, out)
+    match Reader::new(alloc) {
+        Ok(reader) => serve(alloc, out, reader),
+        Err(NoMemory) => Status::NoMemory,
+    }
 }
 
 #[cfg(test)]

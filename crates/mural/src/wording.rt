@@ -2,7 +2,7 @@ ghost use Rattle.std.specs.Prelude.{◌≡◌, IfOk};
 ghost use Rattle.mural.specs.Steps.{told_as, is_refusal as refusal_test, refusal_words};
 
 use crate::reply::Reply;
-use mu_tree::{Bytes, NoMemory, Refusal};
+use mu_tree::{Bytes, Count, NoMemory, Refusal};
 use std::alloc::Global;
 
 /// The bytes that tell a reply.
@@ -41,6 +41,11 @@ fn refusal_text(alloc: Global, refusal: &Refusal) -> Result<Bytes, NoMemory>
             text.extend_from_slice(b"taken ")?;
             text.extend_from_slice(name.bytes())?;
         }
+        Refusal::Circle(name) => {
+            text.extend_from_slice(b"circle ")?;
+            text.extend_from_slice(name.bytes())?;
+        }
+        Refusal::TooMany(Count::Items) => text.extend_from_slice(b"too-many items")?,
     }
     Ok(Bytes::from_vec(text))
 }

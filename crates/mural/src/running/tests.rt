@@ -1,7 +1,10 @@
+mod table;
+
 use super::*;
 use mu_outside::{Desk, Faults};
 use mu_tree::{Bytes, NoMemory, Numbers};
 use std::test::Fail;
+use table::TABLE;
 
 const FIRST: &[u8] = b"theory prop\nconst prop p -> e\naxiom prop ap : p\nstatus ap\n";
 
@@ -117,113 +120,22 @@ fn moves_one_byte_at_a_time(rt: HostRuntime) -> Result<(), Fail> {
 
 #[test]
 fn answers_each_line(rt: HostRuntime) -> Result<(), Fail> {
-    let mut desk = desk(rt.alloc(), LINES, &[], &[])?;
-    assert_eq!(rt; run(rt.alloc(), &[], &mut desk), Status::SomeRefused);
-    assert!(rt; desk.told() == REPLIES);
+    let alloc = rt.alloc();
+    let mut input = Vec::new(alloc);
+    let mut replies = Vec::new(alloc);
+    for (line, reply) in TABLE.iter() {
+        input.extend_from_slice(line)?;
+        input.push(b'\n')?;
+        replies.extend_from_slice(reply)?;
+        if !reply.is_empty() {
+            replies.push(b'\n')?;
+        }
+    }
+    let mut desk = desk(alloc, &input, &[], &[])?;
+    assert_eq!(rt; run(alloc, &[], &mut desk), Status::SomeRefused);
+    assert!(rt; desk.told() == replies.as_slice());
     Ok(())
 }
-
-/// Lines with the replies below, written by hand. The last has no line feed.
-const LINES: &[u8] = b"\
-theory t
-  # a comment
-
-\t \r
-theory t\r
- theory\tu
-theory
-theory t u
-theory t.u
-theory base
-theory theory
-const t p -> e
-const t p -> e
-const t q->e # no comment
-const t q->e
-const base r -> e
-const t and -> e
-const t true -> e
-const t r -> t
-const nope r -> e
-const nope p -> e
-const u e -> e
-axiom t a : p
-axiom t a : p
-axiom u b : p
-axiom t c : true
-axiom t d : bool
-axiom t f : nope
-axiom t g : and
-axiom t h : x.y
-axiom t a.b : p
-axiom nope a : p
-axiom base i : true
-axiom t and : false
-status a
-status b
-status c
-status d
-status f
-status h
-status and
-status g
-status a.b
-status p
-status
-aaaaaaaaaaaaaaaaaaaaaaaaaaaaaaaaaaaaaaaaaaaaaaaaaaaaaaaaaaaaaaaaaaaaaa b
-status aaaaaaaaaaaaaaaaaaaaaaaaaaaaaaaaaaaaaaaaaaaaaaaaaaaaaaaaaaaaaaaaa
-# aaaaaaaaaaaaaaaaaaaaaaaaaaaaaaaaaaaaaaaaaaaaaaaaaaaaaaaaaaaaaaaaaaaaaaaaaa
-status aaaaaaaaaaaaaaaaaaaaaaaaaaaaaaaaaaaaaaaaaaaaaaaaaaaaaaaaaaaaaaaa
-status a";
-
-const REPLIES: &[u8] = b"\
-ok
-refused taken t
-ok
-refused syntax 1
-refused syntax 1
-refused syntax 1
-refused syntax 1
-ok
-ok
-refused taken p
-refused syntax 1
-ok
-refused syntax 1
-refused syntax 1
-refused syntax 1
-refused syntax 1
-refused unknown nope
-refused unknown nope
-ok
-ok
-refused taken a
-ok
-ok
-ok
-ok
-refused syntax 1
-ok
-refused syntax 1
-refused unknown nope
-refused syntax 1
-ok
-a axiom established
-b axiom ill-formed
-c axiom established
-d axiom ill-formed
-f axiom ill-formed
-h axiom ill-formed
-and axiom established
-refused unknown g
-refused unknown a.b
-refused unknown p
-refused syntax 1
-refused syntax 1
-refused syntax 1
-refused unknown aaaaaaaaaaaaaaaaaaaaaaaaaaaaaaaaaaaaaaaaaaaaaaaaaaaaaaaaaaaaaaaa
-a axiom established
-";
 
 #[test]
 fn reads_lines_of_65536_bytes(rt: HostRuntime) -> Result<(), Fail> {
@@ -238,6 +150,73 @@ fn reads_lines_of_65536_bytes(rt: HostRuntime) -> Result<(), Fail> {
     assert!(rt; desk.told() == b"ok\nrefused syntax 1\nok\n".as_slice());
     Ok(())
 }
+
+/// Adds a line that states an axiom: a name, so many times each of these, and an end.
+fn add_axiom(input: &mut Vec<u8>, name: &[u8], parts: &[(&[u8], usize)]) -> Result<(), NoMemory> {
+    input.extend_from_slice(b"axiom t ")?;
+    input.extend_from_slice(name)?;
+    input.extend_from_slice(b" : ")?;
+    for (text, count) in parts {
+        for _ in 0..*count {
+            input.extend_from_slice(text)?;
+        }
+    }
+    input.push(b'\n')?;
+    Ok(())
+}
+
+#[test]
+fn reads_large_trees(rt: HostRuntime) -> Result<(), Fail> {
+    let alloc = rt.alloc();
+    let mut input = Vec::from_slice(alloc, b"theory t\nconst t p -> e\nconst t f(e) -> e\n")?;
+    input.extend_from_slice(b"const t wide(e")?;
+    for _ in 1..4095 {
+        input.extend_from_slice(b", e")?;
+    }
+    input.extend_from_slice(b") -> e\n")?;
+    let open: &[u8] = b"f(";
+    let wide: &[u8] = b"wide(";
+    let more: &[u8] = b"p, ";
+    let (p, close): (&[u8], &[u8]) = (b"p", b")");
+
+    // 4,096 nodes and 4,097; depth 200 and 201; 400 open levels, 401, and a chain of 4,096 nodes
+    add_axiom(
+        &mut input,
+        b"a",
+        &[(wide, 1), (more, 4094), (p, 1), (close, 1)],
+    )?;
+    add_axiom(
+        &mut input,
+        b"b",
+        &[(wide, 1), (more, 4095), (p, 1), (close, 1)],
+    )?;
+    add_axiom(&mut input, b"c", &[(open, 199), (p, 1), (close, 199)])?;
+    add_axiom(&mut input, b"d", &[(open, 200), (p, 1), (close, 200)])?;
+    add_axiom(&mut input, b"g", &[(open, 400), (p, 1), (close, 400)])?;
+    add_axiom(&mut input, b"h", &[(open, 401), (p, 1), (close, 401)])?;
+    add_axiom(&mut input, b"i", &[(open, 4095), (p, 1), (close, 4095)])?;
+    input.extend_from_slice(b"status a\nstatus c\n")?;
+    let mut desk = desk(alloc, &input, &[], &[])?;
+    assert_eq!(rt; run(alloc, &[], &mut desk), Status::SomeRefused);
+    assert!(rt; desk.told() == LARGE_REPLIES);
+    Ok(())
+}
+
+const LARGE_REPLIES: &[u8] = b"\
+ok
+ok
+ok
+ok
+ok
+refused syntax 1
+ok
+refused syntax 1
+refused syntax 1
+refused syntax 814
+refused syntax 814
+a axiom established
+c axiom established
+";
 
 #[test]
 fn gives_up_behind_2_to_the_28_bytes(rt: HostRuntime) {

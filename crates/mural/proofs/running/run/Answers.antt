@@ -4,5 +4,8 @@ use Rattle.mural.proofs.running.run.Goals as goal
 pub returns-then-not-is_empty-clause-laws : goal.returns-then-not-is_empty-clause-laws
 returns-then-not-is_empty-clause-laws g c = laws_hold
 
-pub returns-clause-laws : goal.returns-clause-laws
-returns-clause-laws g c = laws_hold
+pub returns-in-Ok-clause-laws : goal.returns-in-Ok-clause-laws
+returns-in-Ok-clause-laws g c = laws_hold
+
+pub returns-in-Err-clause-laws : goal.returns-in-Err-clause-laws
+returns-in-Err-clause-laws g c = laws_hold

@@ -1,10 +1,9 @@
 use Rattle.std.proofs.Common.{◌≡◌, ◌∙◌, ◌-◌, ◌^◌, ◌<◌, ◌≤◌, ◌++◌, ℕ, List, length, take, drop, min, sym, ap, arith, rules, length-append}
 use Rattle.std.proofs.lemmas.List.{length-take, length-take-le, length-drop}
 use Rattle.std.specs.Io.KnownBytes.{append_known, prepend_known}
-use Rattle.mural.specs.Lines.{whole_lines, most_input}
-use Rattle.mural.specs.Stores.{nothing}
+use Rattle.mural.specs.Lines.{most_input}
+use Rattle.mu_flat.specs.Entries.{initial}
 use Rattle.mural.specs.Replies.{replies, told_bytes, some_refused}
-use Rattle.mural.proofs.Serving.{front_all}
 use Rattle.mural.proofs.Ends.{served_on, taken_part, stop_front, input_too_long, input_ends, all_due, front_due, ended_stop, ended_done}
 use Rattle.mural.proofs.Known.{prepend_twice, whole_input}
 use Rattle.mural.proofs.running.serve.Goals as goal
@@ -48,7 +47,7 @@ returns-then-due-taken-clause-ended g c input is =
     let full : length (bytes ++ take due buf) ≡ most_input = omega (arith, due_is, i.count, i.most, size, length-append bytes (take due buf), c.if-due-taken.true) in
     let some : 0 < length (drop due (take n buf)) = omega (arith, length-drop due (take n buf), length-take-le n buf c.in-Ok.ensures.input.0, c.if-due-taken.true) in
     let long = input_too_long (g.O.Outside.seen c.args.out.now).left (g.O.Outside.seen c.take.new.self).left (bytes ++ take due buf) (drop due (take n buf)) input left is full some in
-    (long.0, (c.in-Ok-feed.ensures.served start bytes served).told_is ∙ ap (λ (l : List (List ℕ)). append_known start (told_bytes (replies nothing l))) long.1)
+    (long.0, (c.in-Ok-feed.ensures.served start bytes served).told_is ∙ ap (λ (l : List (List ℕ)). append_known start (told_bytes (replies initial l))) long.1)
 
 pub loop-taken-preserved : goal.loop-taken-preserved
 loop-taken-preserved g c =

@@ -1,0 +1,69 @@
+-- After any lines no rule leads back to itself by what its proofs cite.
+use Rattle.std.proofs.Common.{◌≡◌, refl, ℕ, true, false, List, [], ◌∷◌, Some, None}
+use Rattle.std.specs.Prelude.{Option, nat_lt, length, if◌then◌else◌}
+use Rattle.std.specs.FinMap as finite
+use Rattle.mu_tree.specs.declared.refusal.Refusal.{Refusal}
+use Rattle.mu_decl.specs.declared.declaration.Statement.{Statement}
+use Rattle.mu_graph.specs.Circles.{IsAcyclic}
+use Rattle.mu_flat.specs.Citations.{leads}
+use Rattle.mu_flat.specs.Entries.{Entries, initial}
+use Rattle.mu_flat.proofs.Validity.{valid_initial}
+use Rattle.mu_command.specs.declared.command.Command.{Command}
+use Rattle.mu_command.specs.declared.command.Command.TheVariants.{Theory, Constant, Axiom, Rule, Proof, Line, Cite, Status}
+use Rattle.mu_command.specs.declared.line.Reading.{Reading}
+use Rattle.mu_command.specs.declared.line.Reading.TheVariants as reading
+use Rattle.mu_command.specs.Readings.{reading_of}
+use Rattle.mu_edit.specs.Changes.{refusal}
+use Rattle.mu_edit.proofs.Acyclic.{changed_acyclic}
+use Rattle.mural.specs.Replies.{answer, answered, carry_out, entries_after, is_quiet, longest_line, no_command, read_out}
+use Rattle.mural.specs.Steps.{outcome, query, step, touches_base}
+
+-- no rule of the store leads back to itself
+abbrev IsSound : Entries → Type 0
+IsSound e = IsAcyclic (leads e.proofs)
+
+by_refusal : (e : Entries) (c : Command) → IsSound e → (why : Option Refusal) → refusal e c ≡ why → IsSound (outcome e c why).entries
+by_refusal e c sound None is = changed_acyclic e c sound is
+by_refusal e c sound (Some refused) is = sound
+
+queried : (e : Entries) (rule : List ℕ) → IsSound e → (found : Option Statement) → IsSound (query e rule found).entries
+queried e rule sound None = sound
+queried e rule sound (Some s) = sound
+
+stepped : (e : Entries) (c : Command) → IsSound e → IsSound (step e c).entries
+unfolding step
+stepped e (Theory unit) sound = by_refusal e (Theory unit) sound _ refl
+stepped e (Constant unit name arguments result) sound = by_refusal e (Constant unit name arguments result) sound _ refl
+stepped e (Axiom unit rule claim) sound = by_refusal e (Axiom unit rule claim) sound _ refl
+stepped e (Rule unit rule claim) sound = by_refusal e (Rule unit rule claim) sound _ refl
+stepped e (Proof rule proof) sound = by_refusal e (Proof rule proof) sound _ refl
+stepped e (Line rule proof label block before tree) sound = by_refusal e (Line rule proof label block before tree) sound _ refl
+stepped e (Cite rule proof label why) sound = by_refusal e (Cite rule proof label why) sound _ refl
+stepped e (Status rule) sound = queried e rule sound (finite.get e.rules rule)
+
+carried : (e : Entries) (c : Command) → IsSound e → IsSound (carry_out e c).entries
+carried e c sound = elim (touches_base c) as (λ b. IsSound (if b then no_command e 1 else answered (step e c)).entries) [ true ↦ sound | false ↦ stepped e c sound ]
+
+read_so : (e : Entries) (read : Reading) → IsSound e → IsSound (read_out e read).entries
+read_so e (reading.Command c) sound = carried e c sound
+read_so e (reading.Past excess) sound = sound
+read_so e (reading.Refused column) sound = sound
+read_so e reading.LongName sound = sound
+
+unquiet : (e : Entries) (line : List ℕ) → IsSound e → IsSound (if is_quiet line then record { entries = e; reply = None } else read_out e (reading_of line)).entries
+unquiet e line sound = elim (is_quiet line) as (λ b. IsSound (if b then record { entries = e; reply = None } else read_out e (reading_of line)).entries) [ true ↦ sound | false ↦ read_so e (reading_of line) sound ]
+
+answered_so : (e : Entries) (line : List ℕ) → IsSound e → IsSound (answer e line).entries
+unfolding answer
+answered_so e line sound =
+    elim (nat_lt longest_line (length line)) as (λ b. IsSound (if b then no_command e 1 else (if is_quiet line then record { entries = e; reply = None } else read_out e (reading_of line))).entries) [
+      | true ↦ sound
+      | false ↦ unquiet e line sound
+    ]
+
+after : (e : Entries) (lines : List (List ℕ)) → IsSound e → IsSound (entries_after e lines)
+after e [] sound = sound
+after e (line ∷ lines) sound = after (answer e line).entries lines (answered_so e line sound)
+
+pub reached_acyclic : (lines : List (List ℕ)) → IsAcyclic (leads (entries_after initial lines).proofs)
+reached_acyclic lines = after initial lines valid_initial.acyclic

@@ -1,5 +1,0 @@
-use Rattle.mural.proofs.Validity.{valid_nothing}
-use Rattle.mural.proofs.store.Store.new.Goals as goal
-
-pub invariant_of-result : goal.invariant_of-result
-invariant_of-result c = rw (c.new.ensures, c.new-2.ensures, c.new-3.ensures) valid_nothing
