@@ -1,10 +1,10 @@
-mod table;
+mod transcripts;
 
 use super::*;
 use mu_outside::{Desk, Faults};
 use mu_tree::{Bytes, NoMemory, Numbers};
 use std::test::Fail;
-use table::TABLE;
+use transcripts::{AXIOMS, CITATIONS, DECLARATIONS, OTHERS, PROOFS};
 
 const FIRST: &[u8] = b"theory prop\nconst prop p -> e\naxiom prop ap : p\nstatus ap\n";
 
@@ -118,22 +118,48 @@ fn moves_one_byte_at_a_time(rt: HostRuntime) -> Result<(), Fail> {
     Ok(())
 }
 
-#[test]
-fn answers_each_line(rt: HostRuntime) -> Result<(), Fail> {
-    let alloc = rt.alloc();
+/// Whether the lines of a transcript have the replies that it has below them.
+fn is_told(alloc: Global, transcript: &[u8]) -> Result<bool, NoMemory> {
     let mut input = Vec::new(alloc);
     let mut replies = Vec::new(alloc);
-    for (line, reply) in TABLE.iter() {
-        input.extend_from_slice(line)?;
-        input.push(b'\n')?;
-        replies.extend_from_slice(reply)?;
-        if !reply.is_empty() {
-            replies.push(b'\n')?;
+    for line in transcript.split_inclusive(|byte| *byte == b'\n') {
+        match line {
+            [b'>', b' ', command @ ..] => input.extend_from_slice(command)?,
+            _ => replies.extend_from_slice(line)?,
         }
     }
     let mut desk = desk(alloc, &input, &[], &[])?;
-    assert_eq!(rt; run(alloc, &[], &mut desk), Status::SomeRefused);
-    assert!(rt; desk.told() == replies.as_slice());
+    let status = run(alloc, &[], &mut desk);
+    Ok(status == Status::SomeRefused && desk.told() == replies.as_slice())
+}
+
+#[test]
+fn answers_declarations(rt: HostRuntime) -> Result<(), Fail> {
+    assert!(rt; is_told(rt.alloc(), DECLARATIONS)?);
+    Ok(())
+}
+
+#[test]
+fn answers_axioms(rt: HostRuntime) -> Result<(), Fail> {
+    assert!(rt; is_told(rt.alloc(), AXIOMS)?);
+    Ok(())
+}
+
+#[test]
+fn answers_proofs(rt: HostRuntime) -> Result<(), Fail> {
+    assert!(rt; is_told(rt.alloc(), PROOFS)?);
+    Ok(())
+}
+
+#[test]
+fn answers_citations(rt: HostRuntime) -> Result<(), Fail> {
+    assert!(rt; is_told(rt.alloc(), CITATIONS)?);
+    Ok(())
+}
+
+#[test]
+fn answers_other_lines(rt: HostRuntime) -> Result<(), Fail> {
+    assert!(rt; is_told(rt.alloc(), OTHERS)?);
     Ok(())
 }
 
