@@ -4,17 +4,17 @@ use Rattle.std.specs.Prelude.{Option, Some, None, option_and_then, slice_get}
 use Rattle.std.specs.Option.{option_map}
 use Rattle.std.proofs.lemmas.List.{length-map}
 use Rattle.std.proofs.lemmas.Option.{slice_get-map}
-use Rattle.mu_tree.specs.declared.tree.Tree.{Tree}
+use Rattle.mu_tree.specs.declared.trees.Tree.{Tree}
 use Rattle.mu_tree.specs.declared.claim.TypedVar.{TypedVar}
 use Rattle.mu_tree.specs.declared.why.Why.{Why}
-use Rattle.mu_decl.specs.Worlds.{World}
-use Rattle.mu_proof.specs.declared.item.Item.{Item}
-use Rattle.mu_proof.specs.declared.item.Item.TheOpen.{Item-F, Line, Block}
-use Rattle.mu_proof.specs.declared.item.Item.TheFolds.{fold-roll-Item, ind-Item}
-use Rattle.mu_proof.specs.declared.item.Item.TheViews.{roll-Item}
-use Rattle.mu_proof.specs.declared.item.Item.TheVariants as item
+use Rattle.mu_decl.specs.Contexts.{World}
+use Rattle.mu_proof.specs.declared.items.Item.{Item}
+use Rattle.mu_proof.specs.declared.items.Item.TheOpen.{Item-F, Line, Block}
+use Rattle.mu_proof.specs.declared.items.Item.TheFolds.{fold-roll-Item, ind-Item}
+use Rattle.mu_proof.specs.declared.items.Item.TheViews.{roll-Item}
+use Rattle.mu_proof.specs.declared.items.Item.TheVariants as item
 use Rattle.mu_check.specs.declared.allowed.Allowed.{Allowed}
-use Rattle.mu_check.specs.declared.environment.Environment.{Environment}
+use Rattle.mu_check.specs.declared.environments.Environment.{Environment}
 use Rattle.mu_check.specs.Facts.{plain_fact}
 use Rattle.mu_check.specs.Environments.{with_item}
 use Rattle.mu_check.specs.Justifications.{line_cause}

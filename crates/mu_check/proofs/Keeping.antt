@@ -3,11 +3,11 @@ use Rattle.std.proofs.Common.{◌≡◌, ℕ, List, [], ◌∷◌, ◌++◌, tak
 use Rattle.std.specs.Prelude.{Option, Some, None}
 use Rattle.std.proofs.lemmas.List.{append_assoc, append-nil}
 use Rattle.std.proofs.Math.Seq.{take-append_seam}
-use Rattle.mu_tree.specs.declared.tree.Tree.{Tree}
+use Rattle.mu_tree.specs.declared.trees.Tree.{Tree}
 use Rattle.mu_tree.specs.declared.claim.TypedVar.{TypedVar}
 use Rattle.mu_decl.specs.Claims.{names_of}
 use Rattle.mu_check.specs.declared.fact.Fact.{Fact}
-use Rattle.mu_check.specs.declared.environment.Environment.{Environment}
+use Rattle.mu_check.specs.declared.environments.Environment.{Environment}
 use Rattle.mu_check.specs.Facts.{closed}
 use Rattle.mu_check.specs.Environments.{with_item, within, left, Keeps}
 use Rattle.mu_check.specs.Verdicts.{with_block}

@@ -1,5 +1,13 @@
 pub mod CheckedEquations
-pub mod CitationEquations
+pub mod Citing
+pub mod Counting
+pub mod DistinctNames
+pub mod Endings
+pub mod GoalLemmas
+pub mod ItemInduction
+pub mod Judging
 pub mod Keeping
+pub mod LabelPlaces
+pub mod MetaTables
 pub mod SameLemmas
-pub mod UnfoldedEquations
+pub mod Walking

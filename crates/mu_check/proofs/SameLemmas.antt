@@ -49,3 +49,7 @@ told false true P a b c d = b (c refl)
 -- a test that tells whether two facts are equal is the test of equality
 pub equal_from : (r : Bool) (a b : Fact) → (IsTrue r ↔ (a ≡ b)) → r ≡ equal_facts a b
 equal_from r a b h = told r (equal_facts a b) (a ≡ b) h.0 h.1 (equal_same fact.the_row.coded a b) (equal_self fact.the_row.coded a b)
+
+-- the same with the two sides exchanged
+pub equal_back : (r : Bool) (a b : Fact) → (IsTrue r ↔ (b ≡ a)) → r ≡ equal_facts a b
+equal_back r a b h = equal_from r a b ((λ t. sym (h.0 t)), (λ e. h.1 (sym e)))

@@ -2,16 +2,16 @@
 use Rattle.std.specs.Prelude.{ℕ, Bool, not, ◌&&◌, List, ◌++◌, map, Option, None}
 use Rattle.std.specs.List.{list_all, list_any, flat_map}
 use Rattle.mu_tree.specs.Names.{is_among}
-use Rattle.mu_tree.specs.declared.tree.Tree.{Tree}
+use Rattle.mu_tree.specs.declared.trees.Tree.{Tree}
 use Rattle.mu_tree.specs.declared.claim.Kind.TheVariants.{E}
 use Rattle.mu_tree.specs.declared.claim.TypedVar.{TypedVar}
-use Rattle.mu_decl.specs.Worlds.{World}
-use Rattle.mu_decl.specs.WellFormed.{is_formed, expression}
+use Rattle.mu_decl.specs.Contexts.{World}
+use Rattle.mu_decl.specs.Formation.{is_formed, expression}
 use Rattle.mu_decl.specs.Claims.{scope_of, types_formed, type_occurrences, all_occurrences}
 use Rattle.mu_check.specs.declared.cause.Cause.{Cause}
 use Rattle.mu_check.specs.declared.cause.Cause.TheVariants.{ShadowedVariable, IllFormedBox, ForeignMeta}
 use Rattle.mu_check.specs.declared.allowed.Allowed.{Allowed}
-use Rattle.mu_check.specs.Instances.{are_known}
+use Rattle.mu_check.specs.Metas.{are_known}
 use Rattle.mu_check.specs.Causes.{test}
 
 -- whether a variable has the name of one in scope

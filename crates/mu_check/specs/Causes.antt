@@ -2,12 +2,12 @@
 use Rattle.std.specs.Prelude.{Bool, false, cond, List, [], map, length, nat_eq, Option, Some, None}
 use Rattle.std.specs.Cmp.Lexicographic.{pointwise}
 use Rattle.mu_tree.specs.Names.{is_among}
-use Rattle.mu_tree.specs.declared.tree.Tree.{Tree}
+use Rattle.mu_tree.specs.declared.trees.Tree.{Tree}
 use Rattle.mu_tree.specs.declared.claim.Hyp.{Hyp}
 use Rattle.mu_tree.specs.declared.claim.Claim.{Claim}
 use Rattle.mu_tree.specs.declared.why.Ref.{Ref}
 use Rattle.mu_tree.specs.declared.why.Given.{Given}
-use Rattle.mu_decl.specs.Worlds.{World}
+use Rattle.mu_decl.specs.Contexts.{World}
 use Rattle.mu_decl.specs.declared.declaration.Statement.{Statement}
 use Rattle.mu_decl.specs.declared.instantiating.Abstraction.{Abstraction}
 use Rattle.mu_decl.specs.Claims.{claim_occurrences}
@@ -16,7 +16,7 @@ use Rattle.mu_check.specs.declared.cause.Cause.TheVariants.{Absent, NotVisible, 
 use Rattle.mu_check.specs.declared.allowed.Allowed.{Allowed}
 use Rattle.mu_check.specs.declared.fact.Fact.{Fact}
 use Rattle.mu_check.specs.declared.fact.Fact.TheVariants as fact
-use Rattle.mu_check.specs.declared.environment.Environment.{Environment}
+use Rattle.mu_check.specs.declared.environments.Environment.{Environment}
 use Rattle.mu_check.specs.Same.{equal_facts}
 use Rattle.mu_check.specs.Facts.{plain_fact, hypothesis_fact, instantiated_fact, entered}
 use Rattle.mu_check.specs.Environments.{gives}

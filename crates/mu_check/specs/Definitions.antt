@@ -2,26 +2,26 @@
 use Rattle.std.specs.Prelude.{ℕ, Bool, false, ◌&&◌, List, [], ◌∷◌, length, nat_eq, Option, Some, None}
 use Rattle.std.specs.FinMap as finite
 use Rattle.mu_tree.specs.Names.{is_among}
-use Rattle.mu_tree.specs.declared.tree.Tree.{Tree}
+use Rattle.mu_tree.specs.declared.trees.Tree.{Tree}
 use Rattle.mu_tree.specs.declared.claim.Kind.{Kind}
 use Rattle.mu_tree.specs.declared.claim.Shape.{Shape}
 use Rattle.mu_tree.specs.declared.claim.Shape.TheVariants.{Plain, Binder}
 use Rattle.mu_tree.specs.declared.claim.Definition.{Definition}
-use Rattle.mu_decl.specs.Worlds.{World}
+use Rattle.mu_decl.specs.Contexts.{World}
 use Rattle.mu_decl.specs.declared.declaration.ConstDecl.{ConstDecl}
 use Rattle.mu_decl.specs.declared.bare.Bare.{Bare}
-use Rattle.mu_decl.specs.declared.forming.Scoped.{Scoped}
-use Rattle.mu_decl.specs.WellFormed.{is_formed, occurrences}
+use Rattle.mu_decl.specs.declared.formation.Scoped.{Scoped}
+use Rattle.mu_decl.specs.Formation.{is_formed, occurrences}
 use Rattle.mu_decl.specs.Nameless.{nameless}
 use Rattle.mu_check.specs.declared.cause.Cause.{Cause}
 use Rattle.mu_check.specs.declared.cause.Cause.TheVariants.{Absent, NotVisible, IllFormedDefinition, HypothesisDiffers, ConclusionDiffers}
 use Rattle.mu_check.specs.declared.allowed.Allowed.{Allowed}
 use Rattle.mu_check.specs.declared.fact.Fact.{Fact}
 use Rattle.mu_check.specs.declared.fact.Fact.TheVariants as fact
-use Rattle.mu_check.specs.declared.environment.Environment.{Environment}
-use Rattle.mu_check.specs.declared.delta.DeltaRule.{DeltaRule}
+use Rattle.mu_check.specs.declared.environments.Environment.{Environment}
+use Rattle.mu_decl.specs.declared.unfolding.DeltaRule.{DeltaRule}
 use Rattle.mu_check.specs.Same.{equal_facts}
-use Rattle.mu_check.specs.Unfolded.{unfolded, delta_of}
+use Rattle.mu_decl.specs.Unfolding.{unfolded, delta_of}
 use Rattle.mu_check.specs.Causes.{test}
 
 -- the parameters of a definition as variables, each of the kind of the argument that it stands for

@@ -1,27 +1,24 @@
 -- What may be cited where an item stands.
 use Rattle.std.specs.Prelude.{◌≡◌, take, ℕ, zero, suc, Bool, List, [], ◌∷◌, ◌++◌, map, nat_eq, Option, Some, None, slice_get, find}
-use Rattle.std.specs.Option.{option_map, is_some}
+use Rattle.std.specs.Option.{is_some}
 use Rattle.std.specs.Cmp.Lexicographic.{pointwise}
-use Rattle.mu_tree.specs.declared.tree.Tree.{Tree}
+use Rattle.mu_tree.specs.declared.trees.Tree.{Tree}
 use Rattle.mu_tree.specs.declared.claim.TypedVar.{TypedVar}
 use Rattle.mu_tree.specs.declared.claim.Claim.{Claim}
 use Rattle.mu_tree.specs.declared.why.Ref.{Ref}
 use Rattle.mu_tree.specs.declared.why.Ref.TheVariants as reference
 use Rattle.mu_decl.specs.Claims.{names_of}
 use Rattle.mu_check.specs.declared.fact.Fact.{Fact}
-use Rattle.mu_check.specs.declared.environment.KnownItem.{KnownItem}
-use Rattle.mu_check.specs.declared.environment.KnownBlock.{KnownBlock}
-use Rattle.mu_check.specs.declared.environment.Environment.{Environment}
+use Rattle.mu_check.specs.declared.environments.KnownItem.{KnownItem}
+use Rattle.mu_check.specs.declared.environments.KnownBlock.{KnownBlock}
+use Rattle.mu_check.specs.declared.environments.Environment.{Environment}
+use Rattle.mu_check.specs.Labels.{item_of}
 use Rattle.mu_check.specs.Facts.{hypothesis_fact, assumptions_of}
 
 -- the k-th, counted from 1
 abbrev pub nth : {A : Type 0} → List A → ℕ → Option A
 nth xs zero = None
 nth xs (suc k) = slice_get xs k
-
--- what the item of a label gives
-abbrev pub item_of : List KnownItem → List ℕ → Option Fact
-item_of items l = option_map (λ i. i.gives) (find (λ i. pointwise nat_eq i.label l) items)
 
 -- the enclosing block of a label
 abbrev pub block_of : List KnownBlock → List ℕ → Option KnownBlock

@@ -1,6 +1,6 @@
 -- What is known of a line, a block, an assumption or a hypothesis: a nameless tree, or a sequent of nameless trees.
 use Rattle.std.specs.Prelude.{ℕ, List, [], ◌∷◌, ◌++◌, codes, map, length}
-use Rattle.mu_tree.specs.declared.tree.Tree.{Tree}
+use Rattle.mu_tree.specs.declared.trees.Tree.{Tree}
 use Rattle.mu_tree.specs.declared.claim.TypedVar.{TypedVar}
 use Rattle.mu_tree.specs.declared.claim.Hyp.{Hyp}
 use Rattle.mu_tree.specs.declared.claim.Hyp.TheVariants as hypothesis
@@ -9,7 +9,7 @@ use Rattle.mu_decl.specs.declared.bare.Bare.{Bare}
 use Rattle.mu_decl.specs.declared.bare.Bare.TheVariants as bare
 use Rattle.mu_decl.specs.declared.instantiating.Abstraction.{Abstraction}
 use Rattle.mu_decl.specs.Nameless.{nameless}
-use Rattle.mu_decl.specs.Instantiated.{instantiated}
+use Rattle.mu_decl.specs.Instantiating.{instantiated}
 use Rattle.mu_decl.specs.Claims.{names_of}
 use Rattle.mu_check.specs.declared.fact.Fact.{Fact}
 use Rattle.mu_check.specs.declared.fact.Fact.TheVariants as fact

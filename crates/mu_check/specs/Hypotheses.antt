@@ -2,25 +2,25 @@
 use Rattle.std.specs.Prelude.{◌+◌, Bool, ◌&&◌, List, [], ◌∷◌, ◌++◌, map, length, nat_eq, Option, Some, None}
 use Rattle.std.specs.List.{list_all}
 use Rattle.std.specs.Cmp.Lexicographic.{pointwise}
-use Rattle.mu_tree.specs.declared.tree.Tree.{Tree}
+use Rattle.mu_tree.specs.declared.trees.Tree.{Tree}
 use Rattle.mu_tree.specs.declared.claim.Kind.TheVariants.{E}
 use Rattle.mu_tree.specs.declared.why.Ref.{Ref}
 use Rattle.mu_decl.specs.declared.bare.Bare.{Bare}
 use Rattle.mu_decl.specs.Nameless.{nameless}
-use Rattle.mu_decl.specs.Opened.{opened}
-use Rattle.mu_decl.specs.Worlds.{World}
-use Rattle.mu_decl.specs.WellFormed.{is_formed, expression}
+use Rattle.mu_decl.specs.Opening.{opened}
+use Rattle.mu_decl.specs.Contexts.{World}
+use Rattle.mu_decl.specs.Formation.{is_formed, expression}
 use Rattle.mu_decl.specs.Claims.{all_occurrences}
 use Rattle.mu_check.specs.declared.cause.Cause.{Cause}
 use Rattle.mu_check.specs.declared.cause.Cause.TheVariants.{Absent, WrongCount, IllFormedInstance, HypothesisDiffers, ConclusionDiffers}
 use Rattle.mu_check.specs.declared.allowed.Allowed.{Allowed}
 use Rattle.mu_check.specs.declared.fact.Fact.{Fact}
 use Rattle.mu_check.specs.declared.fact.Fact.TheVariants as fact
-use Rattle.mu_check.specs.declared.environment.Environment.{Environment}
+use Rattle.mu_check.specs.declared.environments.Environment.{Environment}
 use Rattle.mu_check.specs.Same.{equal_facts}
 use Rattle.mu_check.specs.Facts.{plain_fact, typing_fact}
 use Rattle.mu_check.specs.Environments.{gives}
-use Rattle.mu_check.specs.Instances.{are_known}
+use Rattle.mu_check.specs.Metas.{are_known}
 use Rattle.mu_check.specs.Causes.{test, is_fact}
 
 -- the typing of each term by its variable's type, in which the terms before it stand for the variables before it

@@ -1,32 +1,26 @@
 -- Which instantiations are ones of a claim.
-use Rattle.std.specs.Prelude.{ℕ, Bool, true, false, not, ◌&&◌, List, [], ◌∷◌, ◌++◌, map, length, nat_eq, Option, Some, None, find}
-use Rattle.std.specs.List.{list_all, list_any}
-use Rattle.std.specs.Cmp.Lexicographic.{pointwise}
+use Rattle.std.specs.Prelude.{◌≡◌, ℕ, Bool, true, false, not, ◌&&◌, List, [], ◌∷◌, ◌++◌, map, length, nat_eq, Option, Some, None}
+use Rattle.std.specs.List.{list_all}
+use Rattle.std.specs.FinMap as finite
+use Rattle.mu_tree.specs.Maps.{NamesOf}
 use Rattle.mu_tree.specs.Names.{is_among}
 use Rattle.mu_tree.specs.declared.why.Given.{Given}
-use Rattle.mu_decl.specs.Worlds.{World}
-use Rattle.mu_decl.specs.declared.forming.Scoped.{Scoped}
+use Rattle.mu_decl.specs.Contexts.{World}
+use Rattle.mu_decl.specs.declared.formation.Scoped.{Scoped}
 use Rattle.mu_decl.specs.declared.occurring.Occurrence.{Occurrence}
-use Rattle.mu_decl.specs.WellFormed.{is_formed, occurrences, expression}
-use Rattle.mu_decl.specs.Claims.{same_occurrence}
+use Rattle.mu_decl.specs.Formation.{is_formed, occurrences, expression}
 use Rattle.mu_check.specs.declared.allowed.Allowed.{Allowed}
-
--- whether a metavariable occurs in this way in the claim of the proof's rule
-abbrev pub is_known : List Occurrence → Occurrence → Bool
-is_known metas o = list_any (same_occurrence o) metas
-
--- whether all of some metavariables occur so in the claim of the proof's rule
-abbrev pub are_known : List Occurrence → List Occurrence → Bool
-are_known metas all = list_all (is_known metas) all
+use Rattle.mu_check.specs.Metas.{are_known, first_of}
 
 -- no name stands twice
 abbrev pub are_distinct : List (List ℕ) → Bool
 are_distinct [] = true
 are_distinct (n ∷ names) = not (is_among names n) && are_distinct names
 
--- the first occurrence of a metavariable
-abbrev pub first_of : List Occurrence → List ℕ → Option Occurrence
-first_of all m = find (λ o. pointwise nat_eq o.meta m) all
+-- a set of names is that of a list in which no name stands twice
+pub record AreSet (set : NamesOf) (names : List (List ℕ)) : Type 0 where
+  pub distinct : are_distinct names ≡ true
+  pub among : (n : List ℕ) → finite.contains_key set n ≡ is_among names n
 
 -- some names in scope, and further ones within these
 abbrev pub expressions : List (List ℕ) → List (List ℕ) → List Scoped

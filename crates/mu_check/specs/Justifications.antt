@@ -2,20 +2,20 @@
 use Rattle.std.specs.Prelude.{ℕ, List, [], ◌∷◌, map, Option, Some, None}
 use Rattle.std.specs.List.{list_all}
 use Rattle.std.specs.FinMap as finite
-use Rattle.mu_tree.specs.declared.tree.Tree.{Tree}
+use Rattle.mu_tree.specs.declared.trees.Tree.{Tree}
 use Rattle.mu_tree.specs.declared.claim.Kind.TheVariants.{E}
 use Rattle.mu_tree.specs.declared.why.Ref.{Ref}
 use Rattle.mu_tree.specs.declared.why.Given.{Given}
 use Rattle.mu_tree.specs.declared.why.Why.{Why}
 use Rattle.mu_tree.specs.declared.why.Why.TheVariants as why
-use Rattle.mu_decl.specs.Worlds.{World}
-use Rattle.mu_decl.specs.WellFormed.{is_formed, occurrences, expression}
+use Rattle.mu_decl.specs.Contexts.{World}
+use Rattle.mu_decl.specs.Formation.{is_formed, occurrences, expression}
 use Rattle.mu_check.specs.declared.cause.Cause.{Cause}
 use Rattle.mu_check.specs.declared.cause.Cause.TheVariants.{NoJustification, IllFormedLine, ForeignMeta, NotAccessible, Absent}
 use Rattle.mu_check.specs.declared.allowed.Allowed.{Allowed}
-use Rattle.mu_check.specs.declared.environment.Environment.{Environment}
+use Rattle.mu_check.specs.declared.environments.Environment.{Environment}
 use Rattle.mu_check.specs.Environments.{nth, gives, is_accessible}
-use Rattle.mu_check.specs.Instances.{are_known}
+use Rattle.mu_check.specs.Metas.{are_known}
 use Rattle.mu_check.specs.Causes.{test, rule_cause, same_cause}
 use Rattle.mu_check.specs.Hypotheses.{hypothesis_cause}
 use Rattle.mu_check.specs.Definitions.{definition_cause}

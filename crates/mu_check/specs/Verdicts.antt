@@ -2,21 +2,21 @@
 use Rattle.std.specs.Prelude.{ℕ, List, [], ◌∷◌, map, Option, Some, None, option_and_then, slice_get, length, ◌-◌}
 use Rattle.std.specs.Option.{is_some, option_map, option_or}
 use Rattle.std.specs.FinMap as finite
-use Rattle.mu_tree.specs.declared.tree.Tree.{Tree}
+use Rattle.mu_tree.specs.declared.trees.Tree.{Tree}
 use Rattle.mu_tree.specs.declared.claim.TypedVar.{TypedVar}
 use Rattle.mu_tree.specs.declared.claim.Claim.{Claim}
-use Rattle.mu_decl.specs.Worlds.{World}
+use Rattle.mu_decl.specs.Contexts.{World}
 use Rattle.mu_decl.specs.declared.declaration.Statement.{Statement}
 use Rattle.mu_decl.specs.Claims.{claim_occurrences}
-use Rattle.mu_proof.specs.declared.item.Item.{Item}
-use Rattle.mu_proof.specs.declared.item.Item.TheOpen.{Item-F, Line, Block}
-use Rattle.mu_proof.specs.declared.item.Item.TheFolds.{fold-Item}
+use Rattle.mu_proof.specs.declared.items.Item.{Item}
+use Rattle.mu_proof.specs.declared.items.Item.TheOpen.{Item-F, Line, Block}
+use Rattle.mu_proof.specs.declared.items.Item.TheFolds.{fold-Item}
 use Rattle.mu_proof.specs.Proofs.{root}
 use Rattle.mu_check.specs.declared.cause.Cause.{Cause}
 use Rattle.mu_check.specs.declared.cause.Cause.TheVariants.{NoRule, Unfinished, ConclusionDiffers}
 use Rattle.mu_check.specs.declared.cause.Fault.{Fault}
 use Rattle.mu_check.specs.declared.allowed.Allowed.{Allowed}
-use Rattle.mu_check.specs.declared.environment.Environment.{Environment}
+use Rattle.mu_check.specs.declared.environments.Environment.{Environment}
 use Rattle.mu_check.specs.Same.{equal_facts}
 use Rattle.mu_check.specs.Facts.{plain_fact, closed}
 use Rattle.mu_check.specs.Environments.{start, with_item, within}

@@ -1,7 +1,10 @@
-ghost use Rattle.std.specs.Prelude.{◌≡◌, ◌↔◌, IsTrue};
+ghost use Rattle.std.specs.Prelude.{◌≡◌, ◌↔◌, IsTrue, IfOk};
+ghost use Rattle.mu_check.specs.Facts.{instantiated_fact};
 ghost use Rattle.mu_check.specs.Same.{equal_facts};
 
-use mu_decl::{Bare, Bares, same, same_all};
+use mu_decl::{Abstractions, Bare, Bares, are_instances_of, is_instance_of, same, same_all};
+use mu_tree::NoMemory;
+use std::alloc::Global;
 
 /// What a reference gives.
 #[derive(Debug, Drop)]
@@ -47,4 +50,59 @@ pub fn is_equal(left: &Fact, right: &Fact) -> bool
     ensures { result ≡ equal_facts left.now right.now }
 {
     same_fact(left, right)
+}
+
+fn is_instance(
+    alloc: Global,
+    given: &Abstractions,
+    stated: &Fact,
+    fact: &Fact,
+) -> Result<bool, NoMemory>
+    ensures { IfOk result (λ yes. IsTrue yes ↔ (instantiated_fact given.now stated.now ≡ fact.now)) }
+{
+    match (stated, fact) {
+        (Fact::Plain(pattern), Fact::Plain(tree)) => {
+            let yes = is_instance_of(alloc, given, pattern, tree)?;
+            Ok(yes)
+        }
+        (
+            Fact::Sequent {
+                types,
+                premises,
+                upshot,
+            },
+            Fact::Sequent {
+                types: other_types,
+                premises: other_premises,
+                upshot: other_upshot,
+            },
+        ) => {
+            if !are_instances_of(alloc, given, types.as_slice(), other_types.as_slice())? {
+                return Ok(false);
+            }
+            if !are_instances_of(alloc, given, premises.as_slice(), other_premises.as_slice())? {
+                return Ok(false);
+            }
+            let yes = is_instance_of(alloc, given, upshot, other_upshot)?;
+            Ok(yes)
+        }
+        _ => Ok(false),
+    }
+}
+
+/// Whether a fact is a stated one with its metavariables replaced.
+///
+/// # Errors
+///
+/// `NoMemory` may come at any facts.
+pub fn is_instantiated(
+    alloc: Global,
+    given: &Abstractions,
+    stated: &Fact,
+    fact: &Fact,
+) -> Result<bool, NoMemory>
+    ensures { IfOk result (λ yes. yes ≡ equal_facts fact.now (instantiated_fact given.now stated.now)) }
+{
+    let yes = is_instance(alloc, given, stated, fact)?;
+    Ok(yes)
 }

@@ -1,4 +1,4 @@
-//! The check of a proof: its verdict, with the cause where it doesn't hold, and what it cites.
+//! The check of a proof: its verdict, with the cause where it doesn't hold.
 //!
 //! A line may refer to what stands before it in its own block or in an enclosing one, to the assumptions of the
 //! blocks around it, and to the hypotheses of the rule that is proved. What a reference gives is a `Fact`: a nameless
@@ -7,22 +7,18 @@
 #![tactic(auto)]
 
 mod allowed;
-mod blocking;
+mod blocks;
 mod cause;
-mod checking;
-mod citing;
-mod defining;
-mod delta;
-mod entering;
-mod environment;
+mod definitions;
+mod environments;
 mod fact;
-mod hypothesizing;
-mod instancing;
-mod justifying;
+mod facts;
+mod hypotheses;
+mod instances;
+mod justifications;
+mod labels;
+mod metas;
+mod verdicts;
 
 pub use cause::{Cause, Fault, Verdict};
-pub use checking::{check_items, check_proof};
-pub use citing::{Citations, Cited, cites};
-
-#[cfg(test)]
-mod tests;
+pub use verdicts::{Checker, Goal, check_proof};

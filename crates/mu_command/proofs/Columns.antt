@@ -6,7 +6,7 @@ use Rattle.std.specs.Option.{option_map_or}
 use Rattle.mu_text.specs.declared.token.Token.{Token}
 use Rattle.mu_text.specs.Tokens.{tokens}
 use Rattle.mu_text.proofs.Facts.{IsTokenOf, tokens_hold}
-use Rattle.mu_command.specs.declared.line.Reading.TheVariants as reading
+use Rattle.mu_command.specs.declared.readings.Reading.TheVariants as reading
 use Rattle.mu_command.specs.Readings.{ReadingIsExact, Says, column_behind, column, reading_of}
 use Rattle.mu_command.proofs.Lines.{reading_is_exact}
 

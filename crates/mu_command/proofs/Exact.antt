@@ -3,7 +3,7 @@ use Rattle.std.proofs.Common.{◌≡◌, ℕ, Bool, true, false, List, [], ◌�
 use Rattle.std.specs.Prelude.{find, cond, codes}
 use Rattle.mu_text.specs.declared.symbol.Mark.{Mark}
 use Rattle.mu_text.specs.declared.symbol.Mark.TheVariants.{Arrow, Colon}
-use Rattle.mu_text.specs.Items.{Item, word, mark}
+use Rattle.mu_text.specs.Lexemes.{Lexeme, word, mark}
 use Rattle.mu_text.specs.declared.symbol.Word.TheVariants.{Plain}
 use Rattle.mu_text.specs.Parts.{Nothing, OneToken, End, given_back, Then, chain, token}
 use Rattle.mu_text.specs.Rows.{Values, SpellsRow}
@@ -18,8 +18,8 @@ use Rattle.mu_text.proofs.Claims.{NoClaim, Exact-claim}
 use Rattle.mu_text.proofs.Reasons.{NoReason, Exact-reason}
 use Rattle.mu_text.proofs.Groups.{NoOpen, Exact-argument_kinds, Exact-optional}
 use Rattle.mu_text.proofs.Rows as rows
-use Rattle.mu_command.specs.declared.form.Form.{Form}
-use Rattle.mu_command.specs.declared.form.Form.TheVariants.{Theory, Constant, Axiom, Rule, Proof, Line, Cite, Status}
+use Rattle.mu_command.specs.declared.forms.Form.{Form}
+use Rattle.mu_command.specs.declared.forms.Form.TheVariants.{Theory, Constant, Axiom, Rule, Proof, Line, Cite, Status}
 use Rattle.mu_command.specs.Forms.{keyword, forms, form_of, FormWord, read_form}
 use Rattle.mu_command.specs.Parts.{Part, name, plain, given, sign, kind, arguments, before, tree, claim, reason, Value, IsBefore, SpellsPart, read_before, read_part}
 use Rattle.mu_command.specs.Grammar.{row, Spelled, Written, Spells, read_parts, read_command}
@@ -44,10 +44,10 @@ own_form Line = refl
 own_form Cite = refl
 own_form Status = refl
 
-to_word : (ts : List Item) (form : Form) → OneToken form_of ts form → FormWord ts form
+to_word : (ts : List Lexeme) (form : Form) → OneToken form_of ts form → FormWord ts form
 to_word ts form g = (g.0, g.1, from_bytes (keyword form) (name_of g.0) (found_passes (λ other. is_word (keyword other) g.0) forms form g.2))
 
-from_word : (ts : List Item) (form : Form) → FormWord ts form → OneToken form_of ts form
+from_word : (ts : List Lexeme) (form : Form) → FormWord ts form → OneToken form_of ts form
 from_word ts form g = (g.0, g.1, ap (λ o. find (λ other. has_bytes (keyword other) o) forms) g.2 ∙ own_form form)
 
 pub Exact-form : Exact read_form FormWord Any
@@ -55,17 +55,17 @@ unfolding read_form
 Exact-form = Exact-same (token form_of) (OneToken form_of) FormWord Any to_word from_word (Exact-token form_of (word Plain (keyword Theory)) Theory refl Any)
 
 -- whether the token is the word `before`
-abbrev is_before_word : Item → Bool
+abbrev is_before_word : Lexeme → Bool
 is_before_word = is_word (codes "before")
 
 exact_is_before : Exact (chain (read_word (codes "before")) (λ _ l. read_name l)) IsBefore Any
 exact_is_before = Exact-chain (read_word (codes "before")) (λ _ l. read_name l) (GivenWord (codes "before")) (λ _ l y. AnyName l y) Any Any (Exact-word (codes "before")) (λ _. Exact-name) (λ u b y rest h s. tt)
 
-before_passes : (ts : List Item) (x : List ℕ) → IsBefore ts x → Passes is_before_word ts
+before_passes : (ts : List Lexeme) (x : List ℕ) → IsBefore ts x → Passes is_before_word ts
 before_passes ts x g =
     subst (Passes is_before_word) (sym (g.3 ∙ ap (λ l. l ++ g.2) g.4.1)) (is_own_word (codes "before") g.4.0 g.4.2)
 
-abbrev pub NoBefore : List Item → Type 0
+abbrev pub NoBefore : List Lexeme → Type 0
 NoBefore rest = Any rest × Fails is_before_word rest
 
 exact_before : Exact read_before (Optional IsBefore) NoBefore
@@ -73,7 +73,7 @@ unfolding read_before
 exact_before = Exact-optional is_before_word (chain (read_word (codes "before")) (λ _ l. read_name l)) IsBefore Any exact_is_before before_passes
 
 -- what may follow a part
-abbrev pub Stops : Part → List Item → Type 0
+abbrev pub Stops : Part → List Lexeme → Type 0
 Stops arguments ts = NoOpen ts
 Stops before ts = NoBefore ts
 Stops tree ts = Follows ts
@@ -94,11 +94,11 @@ exact_part claim = Exact-claim
 exact_part reason = Exact-reason
 
 -- a mark follows
-mark_follows : (S : List Item → Type 0) (m : Mark) (parts : List Part) → ((rest : List Item) → S (mark m ∷ rest)) → (ts : List Item) (v : Values Value (sign m ∷ parts)) → SpellsRow Value SpellsPart (sign m ∷ parts) ts v → S ts
+mark_follows : (S : List Lexeme → Type 0) (m : Mark) (parts : List Part) → ((rest : List Lexeme) → S (mark m ∷ rest)) → (ts : List Lexeme) (v : Values Value (sign m ∷ parts)) → SpellsRow Value SpellsPart (sign m ∷ parts) ts v → S ts
 mark_follows S m parts stops ts v g = subst S (sym (g.2 ∙ ap (λ l. l ++ g.1) g.3)) (stops g.1)
 
 -- nothing follows
-none_follows : (S : List Item → Type 0) → S [] → (ts : List Item) (v : Values Value []) → SpellsRow Value SpellsPart [] ts v → S ts
+none_follows : (S : List Lexeme → Type 0) → S [] → (ts : List Lexeme) (v : Values Value []) → SpellsRow Value SpellsPart [] ts v → S ts
 none_follows S stops ts v g = subst S (sym g) stops
 
 -- in each form what follows a part lets it stop there
@@ -127,30 +127,30 @@ linked Line = (
 linked Cite = (λ ts v g. tt, (λ ts v g. tt, (λ ts v g. tt, (λ ts v g. tt, (none_follows NoReason (((tt, tt), tt), ((tt, tt), tt)), tt)))))
 linked Status = (λ ts v g. tt, tt)
 
-abbrev pub SpellsParts : (form : Form) → List Item → Spelled form → Type 0
+abbrev pub SpellsParts : (form : Form) → List Lexeme → Spelled form → Type 0
 SpellsParts form ts v = SpellsRow Value SpellsPart (row form) ts v
 
 exact_parts : (form : Form) → Exact (read_parts form) (SpellsParts form) End
 unfolding read_parts
 exact_parts form = rows.Exact-row Value read_part SpellsPart Stops exact_part (row form) (linked form)
 
-abbrev Behind : (form : Form) → List Item → Written → Type 0
+abbrev Behind : (form : Form) → List Lexeme → Written → Type 0
 Behind form = Then (SpellsParts form) (λ v. Nothing (form, v))
 
 exact_behind : (form : Form) → Exact (chain (read_parts form) (λ v. given_back (form, v))) (Behind form) End
 exact_behind form =
     Exact-chain (read_parts form) (λ v. given_back (form, v)) (SpellsParts form) (λ v. Nothing (form, v)) End End (exact_parts form) (λ v. Exact-pure (form, v) End) (λ v b w rest g e. both_empty b rest g.0 e)
   where
-    both_empty : (a b : List Item) → a ≡ [] → b ≡ [] → a ++ b ≡ []
+    both_empty : (a b : List Lexeme) → a ≡ [] → b ≡ [] → a ++ b ≡ []
     both_empty a b e i = rw (e, i) refl
 
-to_written : (ts : List Item) (w : Written) → Then FormWord Behind ts w → Spells ts w
+to_written : (ts : List Lexeme) (w : Written) → Then FormWord Behind ts w → Spells ts w
 to_written ts w g =
     let rest = g.5 in
     let same : g.2 ≡ rest.1 = rest.3 ∙ (ap (λ l. rest.1 ++ l) rest.5.0 ∙ append-nil rest.1) in
-    subst (Spells ts) (sym rest.5.1) (g.1, g.2, g.3, g.4, subst (λ (l : List Item). SpellsParts g.0 l rest.0) (sym same) rest.4)
+    subst (Spells ts) (sym rest.5.1) (g.1, g.2, g.3, g.4, subst (λ (l : List Lexeme). SpellsParts g.0 l rest.0) (sym same) rest.4)
 
-from_written : (ts : List Item) (w : Written) → Spells ts w → Then FormWord Behind ts w
+from_written : (ts : List Lexeme) (w : Written) → Spells ts w → Then FormWord Behind ts w
 from_written ts w g = (w.0, g.0, g.1, g.2, g.3, (w.1, g.1, [], sym (append-nil g.1), g.4, (refl, refl)))
 
 pub Exact-command : Exact read_command Spells End

@@ -1,6 +1,6 @@
 pub mod Columns
 pub mod Exact
-pub mod Forms
+pub mod FormLemmas
 pub mod Lines
 pub mod Meant
 pub mod Plain

@@ -16,12 +16,12 @@ use Rattle.mu_text.specs.declared.token.TokenSort.{TokenSort}
 use Rattle.mu_text.specs.declared.token.TokenSort.TheVariants.{Name, Meta, Place, Symbol, Wrong}
 use Rattle.mu_text.specs.Reading.{text_of, is_meta}
 use Rattle.mu_text.specs.Tokens.{tokens}
-use Rattle.mu_text.specs.Items.{Item, item, items, items_of, item_of, sort_in, word_in}
+use Rattle.mu_text.specs.Lexemes.{Lexeme, item, items, items_of, item_of, sort_in, word_in}
 use Rattle.mu_text.specs.Parts.{Out, found, stopped, Read}
 use Rattle.mu_text.proofs.Facts.{IsTokenOf, tokens_hold}
 use Rattle.mu_text.proofs.Whole.{reads_exactly, only_value}
-use Rattle.mu_command.specs.declared.line.Reading.{Reading}
-use Rattle.mu_command.specs.declared.line.Reading.TheVariants as reading
+use Rattle.mu_command.specs.declared.readings.Reading.{Reading}
+use Rattle.mu_command.specs.declared.readings.Reading.TheVariants as reading
 use Rattle.mu_text.specs.Limits.{WithinToken, WithinTokens}
 use Rattle.mu_text.specs.declared.excess.Excess.{Excess}
 use Rattle.mu_text.specs.declared.excess.Measured.{Measured}
@@ -141,12 +141,12 @@ within_each line (token ∷ ts) (is, rest) =
 pub all_within : (line : List ℕ) → AreWithin line (tokens line)
 all_within line = All-from_recursion (λ token. (token.from < length line) × (token.to ≤ length line)) (tokens line) (within_each line (tokens line) (tokens_hold line))
 
-none_left : (rest : List Item) → length rest ≡ 0 → rest ≡ []
+none_left : (rest : List Lexeme) → length rest ≡ 0 → rest ≡ []
 none_left [] e = refl
 none_left (T ∷ rest) e = absurd (omega arith)
 
 -- a command that is read to the end is what the line reads as, where no limit is passed
-read_whole : (line : List ℕ) (m : Measured Command) (rest : List Item) → has_short_tokens line ≡ true → Read StandsCommand (read_command (items_of line)) m rest → length rest ≡ 0
+read_whole : (line : List ℕ) (m : Measured Command) (rest : List Lexeme) → has_short_tokens line ≡ true → Read StandsCommand (read_command (items_of line)) m rest → length rest ≡ 0
     → (w : Written) × (reading_of line ≡ within_limits w) × (m.excess ≡ excess_of (trees_of_command w)) × (excess_of (trees_of_command w) ≡ no_excess → m.value ≡ command_of w)
 unfolding reading_of
 read_whole line m rest short read none =
@@ -158,7 +158,7 @@ read_whole line m rest short read none =
       command_value read.value (items_of line) m spells (line_kept line short) read.stands,
     )
 
-value_read : (line : List ℕ) (m : Measured Command) (rest : List Item) → has_short_tokens line ≡ true → Read StandsCommand (read_command (items_of line)) m rest → length rest ≡ 0
+value_read : (line : List ℕ) (m : Measured Command) (rest : List Lexeme) → has_short_tokens line ≡ true → Read StandsCommand (read_command (items_of line)) m rest → length rest ≡ 0
     → is_past m.excess ≡ false → reading.Command m.value ≡ reading_of line
 value_read line m rest short read none past =
     let h = read_whole line m rest short read none in
@@ -166,7 +166,7 @@ value_read line m rest short read none past =
     ap (λ c. reading.Command c) (h.3 (none_past (excess_of (trees_of_command h.0)) here))
     ∙ (sym (ap (λ b. if b then reading.Past (excess_of (trees_of_command h.0)) else reading.Command (command_of h.0)) here) ∙ sym h.1)
 
-past_read : (line : List ℕ) (m : Measured Command) (rest : List Item) → has_short_tokens line ≡ true → Read StandsCommand (read_command (items_of line)) m rest → length rest ≡ 0
+past_read : (line : List ℕ) (m : Measured Command) (rest : List Lexeme) → has_short_tokens line ≡ true → Read StandsCommand (read_command (items_of line)) m rest → length rest ≡ 0
     → is_past m.excess ≡ true → reading.Past m.excess ≡ reading_of line
 past_read line m rest short read none past =
     let h = read_whole line m rest short read none in
@@ -175,7 +175,7 @@ past_read line m rest short read none past =
     ∙ (sym (ap (λ b. if b then reading.Past (excess_of (trees_of_command h.0)) else reading.Command (command_of h.0)) here) ∙ sym h.1)
 
 -- what the code answers of a command that is read to the end is what the line reads as
-pub read_value : (line : List ℕ) (m : Measured Command) (rest : List Item) (answer : Reading) → has_short_tokens line ≡ true → Read StandsCommand (read_command (items_of line)) m rest → length rest ≡ 0
+pub read_value : (line : List ℕ) (m : Measured Command) (rest : List Lexeme) (answer : Reading) → has_short_tokens line ≡ true → Read StandsCommand (read_command (items_of line)) m rest → length rest ≡ 0
     → answer ≡ (if is_past m.excess then reading.Past m.excess else reading.Command m.value) → answer ≡ reading_of line
 read_value line m rest answer short read none is = is ∙ by_limit (is_past m.excess) refl
   where

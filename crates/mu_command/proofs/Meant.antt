@@ -1,7 +1,7 @@
 -- What is kept of a command is what is written, within the limits.
 use Rattle.std.proofs.Common.{◌≡◌, ℕ, List, [], ◌∷◌, Option, Some, None, refl, ap, ◌∙◌, subst}
 use Rattle.mu_text.specs.declared.excess.Measured.{Measured}
-use Rattle.mu_text.specs.Items.{Item}
+use Rattle.mu_text.specs.Lexemes.{Lexeme}
 use Rattle.mu_text.specs.Rows.{Values, SpellsRow, StandsRow}
 use Rattle.mu_text.specs.Excesses.{excess_of, no_excess}
 use Rattle.mu_text.specs.Limits.{WithinToken, WithinTokens}
@@ -23,14 +23,14 @@ part_excess kind v k s = refl
 part_excess arguments v k s = refl
 part_excess before v k s = refl
 
-before_meant : (ts : List Item) (v k : Option (List ℕ)) → SpellsPart before ts v → WithinTokens ts → StandsPart before v k → k ≡ v
+before_meant : (ts : List Lexeme) (v k : Option (List ℕ)) → SpellsPart before ts v → WithinTokens ts → StandsPart before v k → k ≡ v
 before_meant ts None None g a s = refl
 before_meant ts None (Some y) g a s = absurd s
 before_meant ts (Some x) None g a s = absurd s
 before_meant ts (Some x) (Some y) g a s =
     ap (λ n. Some n) (s (name-keeps g.2 x (all_parts WithinToken g.1 g.2 (subst WithinTokens g.3 a)).1 g.5))
 
-part_value : (part : Part) (ts : List Item) (v : Value part) (k : Kept part) → SpellsPart part ts v → WithinTokens ts → StandsPart part v k → excess_of (trees_in part v) ≡ no_excess → value_in part k ≡ meant_part part v
+part_value : (part : Part) (ts : List Lexeme) (v : Value part) (k : Kept part) → SpellsPart part ts v → WithinTokens ts → StandsPart part v k → excess_of (trees_in part v) ≡ no_excess → value_in part k ≡ meant_part part v
 part_value name ts v k g a s e = s (name-keeps ts v a g)
 part_value plain ts v k g a s e = s (plain_name-keeps ts v a g)
 part_value (given text) ts v k g a s e = s
@@ -54,7 +54,7 @@ both {A} {B} (a, b) (c, d) e i =
     let second : B → A × B = λ u. (c, u) in
     ap first e ∙ ap second i
 
-row_value : (parts : List Part) (ts : List Item) (v : Values Value parts) (k : Values Kept parts) → SpellsRow Value SpellsPart parts ts v → WithinTokens ts → StandsRow Value Kept StandsPart parts v k
+row_value : (parts : List Part) (ts : List Lexeme) (v : Values Value parts) (k : Values Kept parts) → SpellsRow Value SpellsPart parts ts v → WithinTokens ts → StandsRow Value Kept StandsPart parts v k
     → excess_of (trees_of parts v) ≡ no_excess → values parts k ≡ meant parts v
 row_value [] ts v k g a s e = refl
 row_value (part ∷ parts) ts v k g a s e =
@@ -69,6 +69,6 @@ pub command_excess : (w : Written) (m : Measured Command) → StandsCommand w m 
 command_excess w m s = ap (λ x. x.excess) s.2 ∙ row_excess (row w.0) w.1 s.0 s.1
 
 -- within the limits, what is kept of a command is the command that is written
-pub command_value : (w : Written) (ts : List Item) (m : Measured Command) → Spells ts w → WithinTokens ts → StandsCommand w m → excess_of (trees_of_command w) ≡ no_excess → m.value ≡ command_of w
+pub command_value : (w : Written) (ts : List Lexeme) (m : Measured Command) → Spells ts w → WithinTokens ts → StandsCommand w m → excess_of (trees_of_command w) ≡ no_excess → m.value ≡ command_of w
 command_value w ts m g a s e =
     ap (λ x. x.value) s.2 ∙ ap (make w.0) (row_value (row w.0) g.1 w.1 s.0 g.4 (all_parts WithinToken g.0 g.1 (subst WithinTokens g.2 a)).1 s.1 e)

@@ -16,16 +16,16 @@ use Rattle.mu_text.specs.declared.token.TokenSort.{TokenSort}
 use Rattle.mu_text.specs.declared.token.TokenSort.TheVariants.{Name, Meta, Place, Symbol, Wrong}
 use Rattle.mu_text.specs.Reading.{text_of}
 use Rattle.mu_text.specs.Tokens.{tokens}
-use Rattle.mu_text.specs.Items.{Item, word, mark, item, items, item_of, sort_in, word_in, name_word, name_sort, symbol_mark}
+use Rattle.mu_text.specs.Lexemes.{Lexeme, word, mark, item, items, item_of, sort_in, word_in, name_word, name_sort, symbol_mark}
 use Rattle.mu_text.specs.Rows.{Values, SpellsRow}
 use Rattle.mu_text.specs.SimpleParts.{plain_name_of, PlainName}
 use Rattle.mu_text.proofs.Excesses.{all_parts}
 use Rattle.mu_text.proofs.Facts.{IsTokenOf, tokens_hold}
 use Rattle.mu_text.proofs.Simple.{from_bytes}
 use Rattle.mu_command.specs.declared.command.Command.{Command}
-use Rattle.mu_command.specs.declared.form.Form.{Form}
-use Rattle.mu_command.specs.declared.form.Form.TheVariants.{Theory, Constant, Axiom, Rule, Proof, Line, Cite, Status}
-use Rattle.mu_command.specs.declared.line.Reading.TheVariants as reading
+use Rattle.mu_command.specs.declared.forms.Form.{Form}
+use Rattle.mu_command.specs.declared.forms.Form.TheVariants.{Theory, Constant, Axiom, Rule, Proof, Line, Cite, Status}
+use Rattle.mu_command.specs.declared.readings.Reading.TheVariants as reading
 use Rattle.mu_command.specs.Parts.{Part, name, plain, given, sign, kind, arguments, before, tree, claim, reason, Value, SpellsPart}
 use Rattle.mu_command.specs.Grammar.{row, Spelled, command_of}
 use Rattle.mu_command.specs.Readings.{ReadingIsExact, Says, reading_of}
@@ -45,7 +45,7 @@ undotted text spelled none =
     subst IsPlain (join_with_byte-slice_split 46 text) (one_segment (segments text) size (and_parts (list_all is_segment (segments text)) (nat_le (length (segments text)) 3) spelled).0)
 
 -- where the token is a plain name, this has one segment
-abbrev IsPlainItem : Item → Type 0
+abbrev IsPlainItem : Lexeme → Type 0
 IsPlainItem T = (text : List ℕ) → plain_name_of T ≡ Some text → IsPlain text
 
 moved : (own text : List ℕ) → Some own ≡ Some text → IsPlain own → IsPlain text
@@ -92,7 +92,7 @@ tokens_plain : (line : List ℕ) (ts : List Token) → AllByRecursion (IsTokenOf
 tokens_plain line [] is = tt
 tokens_plain line (token ∷ ts) is = (token_plain line token is.0, tokens_plain line ts is.1)
 
-plain_spelled : (ts : List Item) (text : List ℕ) → AllByRecursion IsPlainItem ts → PlainName ts text → IsPlain text
+plain_spelled : (ts : List Lexeme) (text : List ℕ) → AllByRecursion IsPlainItem ts → PlainName ts text → IsPlain text
 plain_spelled ts text are g = let first = subst (AllByRecursion IsPlainItem) g.1 are in first.0 text g.2
 
 -- the value of a part that is a plain name is one
@@ -105,7 +105,7 @@ abbrev IsPlainRow : (parts : List Part) → Values Value parts → Type 0
 IsPlainRow [] v = Unit {0}
 IsPlainRow (part ∷ parts) v = IsPlainPart part v.0 × IsPlainRow parts v.1
 
-part_plain : (part : Part) (ts : List Item) (v : Value part) → AllByRecursion IsPlainItem ts → SpellsPart part ts v → IsPlainPart part v
+part_plain : (part : Part) (ts : List Lexeme) (v : Value part) → AllByRecursion IsPlainItem ts → SpellsPart part ts v → IsPlainPart part v
 part_plain plain ts v are g = plain_spelled ts v are g
 part_plain name ts v are g = tt
 part_plain (given text) ts v are g = tt
@@ -117,7 +117,7 @@ part_plain tree ts v are g = tt
 part_plain claim ts v are g = tt
 part_plain reason ts v are g = tt
 
-row_plain : (parts : List Part) (ts : List Item) (v : Values Value parts) → AllByRecursion IsPlainItem ts → SpellsRow Value SpellsPart parts ts v → IsPlainRow parts v
+row_plain : (parts : List Part) (ts : List Lexeme) (v : Values Value parts) → AllByRecursion IsPlainItem ts → SpellsRow Value SpellsPart parts ts v → IsPlainRow parts v
 row_plain [] ts v are g = tt
 row_plain (part ∷ parts) ts v are g =
     let here = all_parts IsPlainItem g.0 g.1 (subst (AllByRecursion IsPlainItem) g.2 are) in

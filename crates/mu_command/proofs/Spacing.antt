@@ -6,24 +6,24 @@ use Rattle.std.proofs.lemmas.List.Folds.{list_all-map}
 use Rattle.mu_tree.specs.Names.{is_short}
 use Rattle.mu_text.specs.declared.token.Token.{Token}
 use Rattle.mu_text.specs.Tokens.{tokens}
-use Rattle.mu_text.specs.Items.{items_of}
+use Rattle.mu_text.specs.Lexemes.{items_of}
 use Rattle.mu_text.specs.Parts.{Out, found, stopped}
 use Rattle.mu_text.specs.Spacing.{spaced}
-use Rattle.mu_text.proofs.Spacing.{Lexeme, lexeme, lexemes, spaced_lexemes, spaced_items}
+use Rattle.mu_text.proofs.Spacing.{BareToken, bare_token, bare_tokens, spaced_bare_tokens, spaced_items}
 use Rattle.mu_command.specs.declared.command.Command.{Command}
-use Rattle.mu_command.specs.declared.line.Reading.TheVariants as reading
+use Rattle.mu_command.specs.declared.readings.Reading.TheVariants as reading
 use Rattle.mu_command.specs.Grammar.{Written, read_command}
 use Rattle.mu_command.specs.Readings.{segments_of, has_short_tokens, read_as, reading_of}
 
-is_short_lexeme : Lexeme → Bool
+is_short_lexeme : BareToken → Bool
 is_short_lexeme x = is_short (segments_of x.0 x.1)
 
-short_lexemes : (line : List ℕ) → list_all is_short_lexeme (lexemes line) ≡ has_short_tokens line
+short_lexemes : (line : List ℕ) → list_all is_short_lexeme (bare_tokens line) ≡ has_short_tokens line
 unfolding is_short_lexeme
-short_lexemes line = list_all-map is_short_lexeme (lexeme line) (tokens line)
+short_lexemes line = list_all-map is_short_lexeme (bare_token line) (tokens line)
 
 spaced_short : (line : List ℕ) → has_short_tokens (spaced line) ≡ has_short_tokens line
-spaced_short line = sym (short_lexemes (spaced line)) ∙ (ap (list_all is_short_lexeme) (spaced_lexemes line) ∙ short_lexemes line)
+spaced_short line = sym (short_lexemes (spaced line)) ∙ (ap (list_all is_short_lexeme) (spaced_bare_tokens line) ∙ short_lexemes line)
 
 -- a command that is read does not depend on the places of the tokens
 read_anywhere : (ts us : List Token) (out : Out Written) (c : Command) → read_as ts out ≡ reading.Command c → read_as us out ≡ reading.Command c

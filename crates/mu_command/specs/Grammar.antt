@@ -3,15 +3,15 @@ use Rattle.std.specs.Prelude.{◌≡◌, List, [], ◌∷◌, ◌++◌, codes}
 use Rattle.mu_text.specs.declared.excess.Excess.{Excess}
 use Rattle.mu_text.specs.declared.excess.Measured.{Measured}
 use Rattle.mu_text.specs.declared.symbol.Mark.TheVariants.{Arrow, Colon}
-use Rattle.mu_text.specs.Items.{Item}
+use Rattle.mu_text.specs.Lexemes.{Lexeme}
 use Rattle.mu_text.specs.Parts.{Out, found, ◌>>=◌}
 use Rattle.mu_text.specs.Rows.{Values, SpellsRow, read_row, Makes}
 use Rattle.mu_text.specs.Writings.{Writing}
 use Rattle.mu_text.specs.Excesses.{no_excess}
 use Rattle.mu_command.specs.declared.command.Command.{Command}
 use Rattle.mu_command.specs.declared.command.Command.TheVariants as command
-use Rattle.mu_command.specs.declared.form.Form.{Form}
-use Rattle.mu_command.specs.declared.form.Form.TheVariants.{Theory, Constant, Axiom, Rule, Proof, Line, Cite, Status}
+use Rattle.mu_command.specs.declared.forms.Form.{Form}
+use Rattle.mu_command.specs.declared.forms.Form.TheVariants.{Theory, Constant, Axiom, Rule, Proof, Line, Cite, Status}
 use Rattle.mu_command.specs.Forms.{FormWord, read_form}
 use Rattle.mu_command.specs.Parts.{Part, name, plain, given, sign, kind, arguments, before, tree, claim, reason, Value, SpellsPart, read_part, Meant, meant_part, trees_in, Kept, StandsPart, excess_in, value_in, either_excess}
 
@@ -46,8 +46,8 @@ abbrev pub Written : Type 0
 Written = (form : Form) × Spelled form
 
 -- the tokens are those of the written command: the word of its form, and each part behind the one before it
-abbrev pub Spells : List Item → Written → Type 0
-Spells ts w = (a b : List Item) × (ts ≡ a ++ b) × FormWord a w.0 × SpellsRow Value SpellsPart (row w.0) b w.1
+abbrev pub Spells : List Lexeme → Written → Type 0
+Spells ts w = (a b : List Lexeme) × (ts ≡ a ++ b) × FormWord a w.0 × SpellsRow Value SpellsPart (row w.0) b w.1
 
 -- what is meant by the values of some parts
 abbrev pub meant : (parts : List Part) → Values Value parts → Values Meant parts
@@ -68,11 +68,11 @@ abbrev pub trees_of_command : Written → List Writing
 trees_of_command w = trees_of (row w.0) w.1
 
 -- reads the parts of a form
-unfoldable pub read_parts : (form : Form) → List Item → Out (Spelled form)
+unfoldable pub read_parts : (form : Form) → List Lexeme → Out (Spelled form)
 read_parts form ts = read_row Value read_part (row form) ts
 
 -- reads a command
-unfoldable pub read_command : List Item → Out Written
+unfoldable pub read_command : List Lexeme → Out Written
 read_command ts = read_form ts >>= (λ form behind. read_parts form behind >>= (λ v rest. found (form, v) rest))
 
 -- what is kept of some parts, without limits

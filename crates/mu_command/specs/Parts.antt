@@ -1,13 +1,13 @@
 -- The parts that commands are made of: what each is spelled by, what reads it, what is kept of it, and what is meant by it.
 use Rattle.std.specs.Prelude.{ℕ, ◌||◌, List, [], ◌∷◌, Option, codes}
-use Rattle.mu_tree.specs.declared.tree.Tree.{Tree}
+use Rattle.mu_tree.specs.declared.trees.Tree.{Tree}
 use Rattle.mu_tree.specs.declared.claim.Kind.{Kind}
 use Rattle.mu_tree.specs.declared.claim.Claim.{Claim}
 use Rattle.mu_tree.specs.declared.why.Why.{Why}
 use Rattle.mu_text.specs.declared.excess.Excess.{Excess}
 use Rattle.mu_text.specs.declared.excess.Measured.{Measured}
 use Rattle.mu_text.specs.declared.symbol.Mark.{Mark}
-use Rattle.mu_text.specs.Items.{Item}
+use Rattle.mu_text.specs.Lexemes.{Lexeme}
 use Rattle.mu_text.specs.Parts.{Out, Same, Then, chain}
 use Rattle.mu_text.specs.SimpleParts.{AnyName, PlainName, GivenMark, GivenWord, OneKind, StandsName, is_word, read_mark, read_word, read_name, read_plain_name, read_kind}
 use Rattle.mu_text.specs.Groups.{ArgumentKinds, read_argument_kinds, Optional, optional, StandsOptional}
@@ -44,11 +44,11 @@ Value claim = Sentence
 Value reason = Reason
 
 -- `before` and a name
-abbrev pub IsBefore : List Item → List ℕ → Type 0
+abbrev pub IsBefore : List Lexeme → List ℕ → Type 0
 IsBefore ts text = Then (GivenWord (codes "before")) (λ _ l y. AnyName l y) ts text
 
 -- the tokens spell the value of the part
-abbrev pub SpellsPart : (part : Part) → List Item → Value part → Type 0
+abbrev pub SpellsPart : (part : Part) → List Lexeme → Value part → Type 0
 SpellsPart name ts v = AnyName ts v
 SpellsPart plain ts v = PlainName ts v
 SpellsPart (given text) ts v = GivenWord text ts v
@@ -61,11 +61,11 @@ SpellsPart claim ts v = IsClaim ts v
 SpellsPart reason ts v = IsReason ts v
 
 -- reads `before` and a name, where the word stands
-unfoldable pub read_before : List Item → Out (Option (List ℕ))
+unfoldable pub read_before : List Lexeme → Out (Option (List ℕ))
 read_before ts = optional (is_word (codes "before")) (chain (read_word (codes "before")) (λ _ l. read_name l)) ts
 
 -- reads the part
-abbrev pub read_part : (part : Part) → List Item → Out (Value part)
+abbrev pub read_part : (part : Part) → List Lexeme → Out (Value part)
 read_part name ts = read_name ts
 read_part plain ts = read_plain_name ts
 read_part (given text) ts = read_word text ts

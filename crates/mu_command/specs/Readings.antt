@@ -8,12 +8,12 @@ use Rattle.mu_text.specs.declared.token.TokenSort.{TokenSort}
 use Rattle.mu_text.specs.declared.token.TokenSort.TheVariants.{Meta}
 use Rattle.mu_text.specs.Reading.{text_of}
 use Rattle.mu_text.specs.Tokens.{tokens}
-use Rattle.mu_text.specs.Items.{items_of}
+use Rattle.mu_text.specs.Lexemes.{items_of}
 use Rattle.mu_text.specs.Parts.{Out, found, stopped, Refused}
 use Rattle.mu_text.specs.declared.excess.Excess.{Excess}
 use Rattle.mu_text.specs.Excesses.{excess_of, no_excess}
-use Rattle.mu_command.specs.declared.line.Reading.{Reading}
-use Rattle.mu_command.specs.declared.line.Reading.TheVariants as reading
+use Rattle.mu_command.specs.declared.readings.Reading.{Reading}
+use Rattle.mu_command.specs.declared.readings.Reading.TheVariants as reading
 use Rattle.mu_command.specs.Grammar.{Written, Spells, command_of, trees_of_command, read_command}
 
 -- the part of a token's bytes that is made of segments

@@ -2,11 +2,11 @@
 #![tactic(auto)]
 
 mod command;
-mod form;
-mod line;
-mod reading;
+mod forms;
+mod grammar;
+mod readings;
 
 pub use command::Command;
-pub use form::{Form, keyword};
-pub use line::{Reading, read};
-pub use reading::read_command;
+pub use forms::{Form, keyword};
+pub use grammar::read_command;
+pub use readings::{Reading, read};

@@ -10,9 +10,9 @@ use Rattle.mu_tree.specs.Maps.{MapOf}
 use Rattle.mu_tree.specs.declared.claim.Kind.{Kind}
 use Rattle.mu_tree.specs.declared.claim.Kind.TheVariants.{E, T}
 use Rattle.mu_tree.proofs.MapLemmas.{same_name, get-insert_here, get-insert_other, inserted}
-use Rattle.mu_decl.specs.declared.agreeing.Arity.{Arity}
+use Rattle.mu_decl.specs.declared.arities.Arity.{Arity}
 use Rattle.mu_decl.specs.declared.occurring.Occurrence.{Occurrence}
-use Rattle.mu_decl.specs.WellFormed.{same_kind}
+use Rattle.mu_decl.specs.Formation.{same_kind}
 use Rattle.mu_decl.specs.Claims.{agree, agrees}
 use Rattle.mu_decl.specs.Arities.{arity_of, has_arity, with_arity_at, with_arity, agree_in_turn}
 

@@ -4,8 +4,8 @@ use Rattle.std.specs.List.{AllByRecursion}
 use Rattle.std.proofs.lemmas.List.{length-append, length-reverse}
 use Rattle.std.proofs.lemmas.Option.{slice_get_within}
 use Rattle.mu_tree.specs.Names.{is_among}
-use Rattle.mu_tree.specs.declared.tree.Tree.{Tree}
-use Rattle.mu_tree.specs.declared.tree.Tree.TheVariants as tree
+use Rattle.mu_tree.specs.declared.trees.Tree.{Tree}
+use Rattle.mu_tree.specs.declared.trees.Tree.TheVariants as tree
 use Rattle.mu_decl.specs.declared.bare.Bare.{Bare}
 use Rattle.mu_decl.specs.declared.bare.Bare.TheVariants as bare
 use Rattle.mu_decl.specs.Nameless.{place, leaf_at, applied, nameless}

@@ -5,12 +5,12 @@ use Rattle.std.proofs.lemmas.List.{map-append, reverse-append, append_assoc, len
 use Rattle.std.proofs.lemmas.List.Folds.{list_any-append}
 use Rattle.std.proofs.lemmas.Option.{slice_get-map, slice_get_within}
 use Rattle.mu_tree.specs.Names.{is_among}
-use Rattle.mu_tree.specs.declared.tree.Tree.{Tree}
-use Rattle.mu_tree.specs.declared.tree.Tree.TheVariants as tree
+use Rattle.mu_tree.specs.declared.trees.Tree.{Tree}
+use Rattle.mu_tree.specs.declared.trees.Tree.TheVariants as tree
 use Rattle.mu_decl.specs.declared.bare.Bare.{Bare}
 use Rattle.mu_decl.specs.declared.bare.Bare.TheVariants as bare
 use Rattle.mu_decl.specs.Nameless.{place, leaf_at, leaf, applied, nameless}
-use Rattle.mu_decl.specs.Opened.{open_under}
+use Rattle.mu_decl.specs.Opening.{open_under}
 use Rattle.mu_decl.proofs.EnteringEquations.{nameless-app, nameless-meta, nameless-bind}
 use Rattle.mu_decl.proofs.OpeningEquations.{shift-var, open-var, open-index, open-app, open-meta, open-bind}
 use Rattle.mu_decl.specs.Laws.{OpeningEnters}

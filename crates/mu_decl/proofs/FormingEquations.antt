@@ -5,18 +5,18 @@ use Rattle.std.proofs.lemmas.List.{length-map}
 use Rattle.std.specs.Cmp.Lexicographic.{pointwise}
 use Rattle.std.specs.List.{list_all}
 use Rattle.std.specs.FinMap as finite
-use Rattle.mu_tree.specs.declared.tree.Tree.{Tree}
-use Rattle.mu_tree.specs.declared.tree.Tree.TheOpen.{App, Meta, Bind}
-use Rattle.mu_tree.specs.declared.tree.Tree.TheFolds.{fold-Tree, fold-roll-Tree}
-use Rattle.mu_tree.specs.declared.tree.Tree.TheVariants as tree
+use Rattle.mu_tree.specs.declared.trees.Tree.{Tree}
+use Rattle.mu_tree.specs.declared.trees.Tree.TheOpen.{App, Meta, Bind}
+use Rattle.mu_tree.specs.declared.trees.Tree.TheFolds.{fold-Tree, fold-roll-Tree}
+use Rattle.mu_tree.specs.declared.trees.Tree.TheVariants as tree
 use Rattle.mu_tree.specs.declared.claim.Kind.{Kind}
 use Rattle.mu_tree.specs.declared.claim.Kind.TheVariants.{E, T}
 use Rattle.mu_tree.specs.declared.claim.Shape.{Shape}
 use Rattle.mu_tree.specs.declared.claim.Shape.TheVariants.{Plain, Binder}
-use Rattle.mu_decl.specs.declared.forming.Scoped.{Scoped}
+use Rattle.mu_decl.specs.declared.formation.Scoped.{Scoped}
 use Rattle.mu_decl.specs.declared.occurring.Occurrence.{Occurrence}
-use Rattle.mu_decl.specs.Worlds.{World}
-use Rattle.mu_decl.specs.WellFormed.{Judged, formed_step, is_formed, application_formed, binder_formed, takes, binds, named, kind_in, shape_for, same_kind, occurrence_step, occurrences, argument_kinds, body_kind, spread}
+use Rattle.mu_decl.specs.Contexts.{World}
+use Rattle.mu_decl.specs.Formation.{Judged, formed_step, is_formed, application_formed, binder_formed, takes, binds, named, kind_in, shape_for, same_kind, occurrence_step, occurrences, argument_kinds, body_kind, spread}
 
 module _ (w : World) (seen : List (List ℕ)) (scope : List Scoped) (kind : Kind) where
   abbrev under : Tree → Judged

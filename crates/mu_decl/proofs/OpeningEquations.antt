@@ -6,8 +6,8 @@ use Rattle.mu_decl.specs.declared.bare.Bare.TheOpen.{Bare-F, Var, Index, App, Me
 use Rattle.mu_decl.specs.declared.bare.Bare.TheFolds.{fold-Bare, fold-roll-Bare}
 use Rattle.mu_decl.specs.declared.bare.Bare.TheVariants as bare
 use Rattle.mu_decl.specs.declared.instantiating.Abstraction.{Abstraction}
-use Rattle.mu_decl.specs.Opened.{shifted_index, shift_step, shift_under, opened_index, open_step, open_under}
-use Rattle.mu_decl.specs.Instantiated.{instantiated_step, instantiated, instance}
+use Rattle.mu_decl.specs.Opening.{shifted_index, shift_step, shift_under, opened_index, open_step, open_under}
+use Rattle.mu_decl.specs.Instantiating.{instantiated_step, instantiated, instance}
 
 -- a fold into functions of the depth: its equations by the steps
 module _ (step : Bare-F (ℕ → Bare) → ℕ → Bare) (depth : ℕ) where

@@ -7,10 +7,10 @@ use Rattle.std.proofs.lemmas.List.{append_assoc}
 use Rattle.std.proofs.lemmas.List.Folds.{list_any-append}
 use Rattle.mu_tree.specs.Names.{is_among}
 use Rattle.mu_tree.specs.Trees.{occurrences, occurrences_step, joined}
-use Rattle.mu_tree.specs.declared.tree.Tree.{Tree}
-use Rattle.mu_tree.specs.declared.tree.Tree.TheOpen.{Tree-F, App, Meta, Bind}
-use Rattle.mu_tree.specs.declared.tree.Tree.TheFolds.{fold-Tree, fold-roll-Tree}
-use Rattle.mu_tree.specs.declared.tree.Tree.TheVariants as tree
+use Rattle.mu_tree.specs.declared.trees.Tree.{Tree}
+use Rattle.mu_tree.specs.declared.trees.Tree.TheOpen.{Tree-F, App, Meta, Bind}
+use Rattle.mu_tree.specs.declared.trees.Tree.TheFolds.{fold-Tree, fold-roll-Tree}
+use Rattle.mu_tree.specs.declared.trees.Tree.TheVariants as tree
 use Rattle.mu_decl.specs.Nameless.{place, leaf_at, leaf, applied, nameless}
 use Rattle.mu_decl.proofs.EnteringEquations.{nameless-app, nameless-meta, nameless-bind}
 use Rattle.mu_decl.specs.Laws.{renamed_name, renamed_application, renamed_step, renamed, RenamingIsFree}

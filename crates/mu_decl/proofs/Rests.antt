@@ -2,11 +2,11 @@
 use Rattle.std.proofs.Common.{◌≡◌, ℕ, zero, suc, ◌+◌, ◌<◌, Bool, true, false, List, [], ◌∷◌, ◌++◌, ◌&&◌, length, map, drop, get_or, ap, sym, ◌∙◌, arith, add-one}
 use Rattle.std.proofs.lemmas.List.{append_assoc}
 use Rattle.std.specs.Cmp.Lexicographic.{pointwise}
-use Rattle.mu_tree.specs.declared.tree.Tree.{Tree}
+use Rattle.mu_tree.specs.declared.trees.Tree.{Tree}
 use Rattle.mu_tree.specs.declared.claim.Kind.{Kind}
 use Rattle.mu_tree.specs.declared.claim.Kind.TheVariants.{E}
 use Rattle.mu_decl.specs.declared.occurring.Occurrence.{Occurrence}
-use Rattle.mu_decl.specs.WellFormed.{spread, kind_at}
+use Rattle.mu_decl.specs.Formation.{spread, kind_at}
 
 spread_none : (f : Tree → Kind → List Occurrence) (trees : List Tree) (i : ℕ) (t : Tree) → i < length trees → get_or trees i t ≡ t → spread [] (map f (drop i trees)) ≡ f t E ++ spread [] (map f (drop (suc i) trees))
 spread_none f [] i t h e = absurd (omega arith)

@@ -1,11 +1,11 @@
 -- Induction over trees, variant by variant.
 use Rattle.std.proofs.Common.{ℕ, List, [], ◌∷◌, map, sym, subst}
 use Rattle.std.specs.List.{AllByRecursion}
-use Rattle.mu_tree.specs.declared.tree.Tree.{Tree}
-use Rattle.mu_tree.specs.declared.tree.Tree.TheOpen.{Tree-F, App, Meta, Bind}
-use Rattle.mu_tree.specs.declared.tree.Tree.TheFolds.{ind-Tree}
-use Rattle.mu_tree.specs.declared.tree.Tree.TheViews.{roll-Tree}
-use Rattle.mu_tree.specs.declared.tree.Tree.TheVariants as tree
+use Rattle.mu_tree.specs.declared.trees.Tree.{Tree}
+use Rattle.mu_tree.specs.declared.trees.Tree.TheOpen.{Tree-F, App, Meta, Bind}
+use Rattle.mu_tree.specs.declared.trees.Tree.TheFolds.{ind-Tree}
+use Rattle.mu_tree.specs.declared.trees.Tree.TheViews.{roll-Tree}
+use Rattle.mu_tree.specs.declared.trees.Tree.TheVariants as tree
 
 abbrev With : (Tree → Type 0) → Type 0
 With P = (t : Tree) × P t

@@ -5,7 +5,7 @@ use Rattle.std.proofs.lemmas.List.{length-reverse}
 use Rattle.std.proofs.lemmas.Option.{slice_get_within}
 use Rattle.mu_decl.specs.declared.bare.Bare.{Bare}
 use Rattle.mu_decl.specs.declared.bare.Bare.TheVariants as bare
-use Rattle.mu_decl.specs.Opened.{shift_under, open_under}
+use Rattle.mu_decl.specs.Opening.{shift_under, open_under}
 use Rattle.mu_decl.specs.Laws.{ShiftedIsUntouched}
 use Rattle.mu_decl.proofs.OpeningEquations.{shift-var, shift-index, shift-app, shift-meta, shift-bind, open-var, open-index, open-app, open-meta, open-bind}
 use Rattle.mu_decl.proofs.Induction.{bare_ind}

@@ -9,8 +9,8 @@ use Rattle.mu_decl.specs.declared.bare.Bare.TheOpen.{Var, Index, App, Meta, Bind
 use Rattle.mu_decl.specs.declared.bare.Bare.TheFolds.{fold-roll-Bare}
 use Rattle.mu_decl.specs.declared.bare.Bare.TheVariants as bare
 use Rattle.mu_decl.specs.declared.instantiating.Abstraction.{Abstraction}
-use Rattle.mu_decl.specs.Opened.{shift_under, placed, open_under, opened}
-use Rattle.mu_decl.specs.Instantiated.{abstraction_of, instance_by, instantiated}
+use Rattle.mu_decl.specs.Opening.{shift_under, placed, open_under, opened}
+use Rattle.mu_decl.specs.Instantiating.{abstraction_of, instance_by, instantiated}
 use Rattle.mu_decl.specs.Laws.{variables, variables_step, VariablesStay}
 use Rattle.mu_decl.proofs.OpeningEquations.{shift-var, shift-index, shift-app, shift-meta, shift-bind, open-var, open-index, open-app, open-meta, open-bind, instantiated-var, instantiated-index, instantiated-app, instantiated-meta, instantiated-bind}
 use Rattle.mu_decl.proofs.Induction.{bare_ind, all_at}

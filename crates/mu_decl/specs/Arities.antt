@@ -2,9 +2,9 @@
 use Rattle.std.specs.Prelude.{Bool, true, ◌&&◌, List, [], ◌∷◌, nat_eq, Option, Some, None}
 use Rattle.std.specs.FinMap as finite
 use Rattle.mu_tree.specs.Maps.{MapOf}
-use Rattle.mu_decl.specs.declared.agreeing.Arity.{Arity}
+use Rattle.mu_decl.specs.declared.arities.Arity.{Arity}
 use Rattle.mu_decl.specs.declared.occurring.Occurrence.{Occurrence}
-use Rattle.mu_decl.specs.WellFormed.{same_kind}
+use Rattle.mu_decl.specs.Formation.{same_kind}
 
 -- how an occurrence's metavariable occurs there
 abbrev pub arity_of : Occurrence → Arity

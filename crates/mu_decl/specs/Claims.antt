@@ -2,16 +2,16 @@
 use Rattle.std.specs.Prelude.{ℕ, Bool, true, not, ◌&&◌, ◌||◌, List, [], ◌∷◌, ◌++◌, map, nat_eq}
 use Rattle.std.specs.List.{list_all, flat_map}
 use Rattle.std.specs.Cmp.Lexicographic.{pointwise}
-use Rattle.mu_tree.specs.declared.tree.Tree.{Tree}
+use Rattle.mu_tree.specs.declared.trees.Tree.{Tree}
 use Rattle.mu_tree.specs.declared.claim.Kind.TheVariants.{E, T}
 use Rattle.mu_tree.specs.declared.claim.TypedVar.{TypedVar}
 use Rattle.mu_tree.specs.declared.claim.Hyp.{Hyp}
 use Rattle.mu_tree.specs.declared.claim.Hyp.TheVariants as hypothesis
 use Rattle.mu_tree.specs.declared.claim.Claim.{Claim}
-use Rattle.mu_decl.specs.declared.forming.Scoped.{Scoped}
+use Rattle.mu_decl.specs.declared.formation.Scoped.{Scoped}
 use Rattle.mu_decl.specs.declared.occurring.Occurrence.{Occurrence}
-use Rattle.mu_decl.specs.Worlds.{World}
-use Rattle.mu_decl.specs.WellFormed.{is_formed, expression, same_kind, occurrences, spread}
+use Rattle.mu_decl.specs.Contexts.{World}
+use Rattle.mu_decl.specs.Formation.{is_formed, expression, same_kind, occurrences, spread}
 
 -- the names of some typed variables
 abbrev pub names_of : List TypedVar → List (List ℕ)

@@ -4,18 +4,22 @@ use Rattle.std.specs.List.{AllByRecursion, list_all, flat_map}
 use Rattle.std.specs.Cmp.Lexicographic.{pointwise}
 use Rattle.mu_tree.specs.Names.{is_among}
 use Rattle.mu_tree.specs.Trees.{occurrences, joined}
-use Rattle.mu_tree.specs.declared.tree.Tree.{Tree}
-use Rattle.mu_tree.specs.declared.tree.Tree.TheOpen.{Tree-F, App, Meta, Bind}
-use Rattle.mu_tree.specs.declared.tree.Tree.TheFolds.{fold-Tree}
-use Rattle.mu_tree.specs.declared.tree.Tree.TheVariants as tree
+use Rattle.mu_tree.specs.declared.trees.Tree.{Tree}
+use Rattle.mu_tree.specs.declared.trees.Tree.TheOpen.{Tree-F, App, Meta, Bind}
+use Rattle.mu_tree.specs.declared.trees.Tree.TheFolds.{fold-Tree}
+use Rattle.mu_tree.specs.declared.trees.Tree.TheVariants as tree
 use Rattle.mu_decl.specs.declared.bare.Bare.{Bare}
 use Rattle.mu_decl.specs.declared.bare.Bare.TheOpen as layer
 use Rattle.mu_decl.specs.declared.bare.Bare.TheFolds.{fold-Bare}
 use Rattle.mu_decl.specs.declared.bare.Bare.TheVariants as bare
 use Rattle.mu_decl.specs.declared.instantiating.Abstraction.{Abstraction}
 use Rattle.mu_decl.specs.Nameless.{nameless}
-use Rattle.mu_decl.specs.Opened.{shift, opened}
-use Rattle.mu_decl.specs.Instantiated.{instantiated}
+use Rattle.mu_decl.specs.Opening.{shift, opened}
+use Rattle.mu_tree.specs.Maps.{MapOf}
+use Rattle.mu_decl.specs.declared.unfolding.DeltaRule.{DeltaRule}
+use Rattle.mu_decl.specs.Instantiating.{instantiated}
+use Rattle.mu_decl.specs.Unfolding.{unfolded}
+use Rattle.mu_decl.specs.Translating.{translated}
 
 -- a name in a tree where v is renamed to w, under inner binders of some names, which may bind v again
 abbrev pub renamed_name : List ℕ → List ℕ → List (List ℕ) → List ℕ → List ℕ
@@ -95,3 +99,19 @@ InstancesAreClosed = (given : List Abstraction) → AreClosed given → (n : ℕ
 -- no capture: binders opened before or after an instantiation give the same, whatever their variables become
 unfoldable pub NothingIsCaptured : Type 0
 NothingIsCaptured = (given : List Abstraction) → AreClosed given → (by : List Bare) (t : Bare) → instantiated given (opened by t) ≡ opened (map (instantiated given) by) (instantiated given t)
+
+-- binders opened before or after a definition is unfolded give the same, where the definition has no loose indices but its parameters
+unfoldable pub UnfoldingOpens : Type 0
+UnfoldingOpens = (u : DeltaRule) → closed u.count u.body ≡ true → (by : List Bare) (t : Bare) → unfolded u (opened by t) ≡ opened (map (unfolded u) by) (unfolded u t)
+
+-- binders opened before or after a translation give the same
+unfoldable pub TranslationOpens : Type 0
+TranslationOpens = (names : MapOf (List ℕ)) (by : List Bare) (t : Bare) → translated names (opened by t) ≡ opened (map (translated names) by) (translated names t)
+
+-- an abstraction with its body translated
+abbrev pub translated_body : MapOf (List ℕ) → Abstraction → Abstraction
+translated_body names a = record a { body = translated names a.body }
+
+-- an instance translated is the translation instantiated by the translated abstractions
+unfoldable pub TranslationInstantiates : Type 0
+TranslationInstantiates = (names : MapOf (List ℕ)) (given : List Abstraction) (t : Bare) → translated names (instantiated given t) ≡ instantiated (map (translated_body names) given) (translated names t)

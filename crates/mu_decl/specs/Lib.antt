@@ -1,9 +1,12 @@
+pub mod Abstractions
 pub mod Arities
 pub mod Claims
-pub mod Instantiated
+pub mod Contexts
+pub mod Formation
+pub mod Instantiating
 pub mod Laws
 pub mod Nameless
 pub mod Nothing
-pub mod Opened
-pub mod WellFormed
-pub mod Worlds
+pub mod Opening
+pub mod Translating
+pub mod Unfolding

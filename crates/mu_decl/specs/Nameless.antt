@@ -2,9 +2,9 @@
 use Rattle.std.specs.Prelude.{ℕ, cond, List, [], ◌∷◌, ◌++◌, map, reverse, position, Option, Some, None, nat_eq}
 use Rattle.std.specs.Cmp.Lexicographic.{pointwise}
 use Rattle.mu_tree.specs.Names.{is_among}
-use Rattle.mu_tree.specs.declared.tree.Tree.{Tree}
-use Rattle.mu_tree.specs.declared.tree.Tree.TheOpen.{Tree-F, App, Meta, Bind}
-use Rattle.mu_tree.specs.declared.tree.Tree.TheFolds.{fold-Tree}
+use Rattle.mu_tree.specs.declared.trees.Tree.{Tree}
+use Rattle.mu_tree.specs.declared.trees.Tree.TheOpen.{Tree-F, App, Meta, Bind}
+use Rattle.mu_tree.specs.declared.trees.Tree.TheFolds.{fold-Tree}
 use Rattle.mu_decl.specs.declared.bare.Bare.{Bare}
 use Rattle.mu_decl.specs.declared.bare.Bare.TheVariants as bare
 

@@ -13,7 +13,7 @@ use Rattle.std.proofs.lemmas.Map.Lookups.{exact_bytes}
 use Rattle.std.proofs.lemmas.Map.Views.{tells_apart}
 use Rattle.mu_tree.specs.Names.{is_among}
 use Rattle.mu_tree.specs.Maps.{MapOf}
-use Rattle.mu_decl.specs.Worlds.{World, IsSeen, Sees, Climbs, parents_of, own_constants, own_axioms, base}
+use Rattle.mu_decl.specs.Contexts.{World, IsSeen, Sees, Climbs, parents_of, own_constants, own_axioms, base}
 use Rattle.mu_decl.specs.declared.declaration.ConstDecl.{ConstDecl}
 use Rattle.mu_decl.specs.declared.declaration.Statement.{Statement}
 

@@ -1,6 +1,6 @@
 ghost use Rattle.std.specs.Prelude.{◌≡◌, IfOk, map};
 ghost use Rattle.std.specs.Option.{option_copied};
-ghost use Rattle.mu_decl.specs.Instantiated.{instantiated, instance, abstraction_of};
+ghost use Rattle.mu_decl.specs.Instantiating.{instantiated, instance, abstraction_of};
 ghost use Rattle.mu_decl.specs.Laws.{VariablesStay, InstancesAreClosed, NothingIsCaptured};
 
 use crate::bare::{Bare, Bares};

@@ -6,27 +6,32 @@
 //! differ in the names of bound variables alone. Well-formedness looks at kinds and at the units that are seen, and needs no nameless trees.
 #![tactic(auto)]
 
-mod agreeing;
+mod abstractions;
+mod arities;
 mod bare;
-mod claiming;
-mod context;
+mod claims;
+mod comparing;
+mod contexts;
 mod declaration;
-mod entering;
-mod forming;
+mod formation;
 mod instantiating;
+mod nameless;
 mod occurring;
 mod opening;
+mod translating;
+mod unfolding;
 
-pub use agreeing::{occurrences_agree, same_occurrence};
+pub use abstractions::Abstractions;
+pub use arities::{occurrences_agree, same_occurrence};
 pub use bare::{Bare, Bares, same, same_all};
-pub use claiming::{add_type_occurrences, claim_occurrences, types_formed, well_formed};
-pub use context::{Context, Own};
+pub use claims::{add_type_occurrences, claim_occurrences, types_formed, well_formed};
+pub use comparing::{are_instances_of, is_instance_of};
+pub use contexts::{Context, Own};
 pub use declaration::{ConstDecl, MorphMap, Renamings, Statement};
-pub use entering::enter;
-pub use forming::{Scope, Scoped, add_expressions, all_formed, is_formed};
+pub use formation::{Scope, Scoped, add_expressions, all_formed, is_formed};
 pub use instantiating::{Abstraction, instantiate, instantiate_all};
+pub use nameless::enter;
 pub use occurring::{Occurrence, Occurrences, all_occurrences, occurrences};
 pub use opening::opened;
-
-#[cfg(test)]
-mod tests;
+pub use translating::translate;
+pub use unfolding::{DeltaRule, delta_of, unfolded};

@@ -1,8 +1,8 @@
 ghost use Rattle.std.specs.Prelude.{◌≡◌, ◌++◌, [], map, IfOk, OnOk};
-ghost use Rattle.mu_decl.specs.WellFormed.{occurrences, spread};
+ghost use Rattle.mu_decl.specs.Formation.{occurrences, spread};
 
-use crate::context::Context;
-use crate::forming::{argument_kinds, body_kind, kind_at};
+use crate::contexts::Context;
+use crate::formation::{argument_kinds, body_kind, kind_at};
 use mu_tree::{Kind, Name, NoMemory, Sequence, Tree};
 use std::alloc::Global;
 

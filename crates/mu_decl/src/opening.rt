@@ -1,6 +1,6 @@
 ghost use Rattle.std.specs.Prelude.{◌≡◌, ◌+◌, IfOk, map, reverse, slice_get};
 ghost use Rattle.std.specs.Option.{option_copied};
-ghost use Rattle.mu_decl.specs.Opened.{shift_under, opened, open_under, opened_index};
+ghost use Rattle.mu_decl.specs.Opening.{shift_under, opened, open_under, opened_index};
 ghost use Rattle.mu_decl.specs.Laws.{OpeningEnters, ShiftedIsUntouched};
 
 use crate::bare::{Bare, Bares};
@@ -8,7 +8,7 @@ use mu_tree::NoMemory;
 use sqlite_items::{Boxed, Items};
 use std::alloc::Global;
 
-fn added(left: u64, right: u64) -> Result<u64, NoMemory>
+pub(crate) fn added(left: u64, right: u64) -> Result<u64, NoMemory>
     ensures { IfOk result (λ sum. sum ≡ left + right) }
 {
     left.checked_add(right).ok_or(NoMemory)
@@ -17,7 +17,7 @@ fn added(left: u64, right: u64) -> Result<u64, NoMemory>
 // The loose indices raised by `by`, of a tree under `depth` binders.
 #[cycle(shift)]
 #[tactic(auto, using(crate::proofs::OpeningEquations::shift_equations))]
-fn shift_under(alloc: Global, tree: &Bare, by: u64, depth: u64) -> Result<Bare, NoMemory>
+pub(crate) fn shift_under(alloc: Global, tree: &Bare, by: u64, depth: u64) -> Result<Bare, NoMemory>
     ensures { IfOk result (λ shifted. shifted ≡ shift_under by depth tree.now) }
 {
     match tree {
@@ -130,7 +130,7 @@ fn open_index(alloc: Global, index: u64, by: &Bares, depth: u64) -> Result<Bare,
 }
 
 // The tree that stands for the loose index `at`, the last one for 0.
-fn replacement(by: &[Bare], at: usize) -> Option<&Bare>
+pub(crate) fn replacement(by: &[Bare], at: usize) -> Option<&Bare>
     ensures { option_copied result ≡ slice_get (reverse by.now) at }
 {
     by.iter().rev().nth(at)

@@ -5,13 +5,14 @@ use Rattle.std.specs.Option.{option_map}
 use Rattle.mu_tree.specs.declared.refusal.Refusal.TheVariants.{Unknown, Circle}
 use Rattle.mu_graph.specs.Circles.{IsAcyclic}
 use Rattle.mu_graph.proofs.CircleLemmas.{fewer_edges_acyclic}
-use Rattle.mu_proof.specs.declared.item.Item.{Item}
-use Rattle.mu_proof.specs.declared.item.Item.TheVariants as item
+use Rattle.mu_proof.specs.declared.items.Item.{Item}
+use Rattle.mu_proof.specs.declared.items.Item.TheVariants as item
 use Rattle.mu_proof.specs.Proofs.{is_line_label, place_of}
-use Rattle.mu_flat.specs.Citations.{ProofsOf, leads, proof_at, with_reason_at, first_circle}
+use Rattle.mu_flat.specs.Circles.{first_circle}
+use Rattle.mu_flat.specs.ProofTables.{ProofsOf, leads, proof_at, with_reason_at}
 use Rattle.mu_flat.specs.Edits.{with_line_in, reason_refusal}
 use Rattle.mu_flat.specs.Entries.{Entries}
-use Rattle.mu_flat.proofs.Circles.{told_acyclic}
+use Rattle.mu_flat.proofs.CircleLemmas.{told_acyclic}
 use Rattle.mu_flat.proofs.Citing.{empty_leads, line_leads}
 use Rattle.mu_command.specs.declared.command.Command.{Command}
 use Rattle.mu_command.specs.declared.command.Command.TheVariants.{Theory, Constant, Axiom, Rule, Proof, Line, Cite, Status}

@@ -5,12 +5,12 @@ use Rattle.std.specs.FinMap as finite
 use Rattle.mu_tree.specs.declared.refusal.Refusal.{Refusal}
 use Rattle.mu_tree.specs.declared.refusal.Refusal.TheVariants.{Unknown, Taken}
 use Rattle.mu_tree.specs.declared.claim.Shape.TheVariants as shape
-use Rattle.mu_proof.specs.declared.item.Item.TheVariants as item
+use Rattle.mu_proof.specs.declared.items.Item.TheVariants as item
 use Rattle.mu_decl.specs.declared.declaration.Statement.{Statement}
-use Rattle.mu_flat.specs.declared.fault.EditFault.{EditFault}
-use Rattle.mu_flat.specs.declared.fault.EditFault.TheVariants as fault
+use Rattle.mu_flat.specs.declared.edits.EditFault.{EditFault}
+use Rattle.mu_flat.specs.declared.edits.EditFault.TheVariants as fault
 use Rattle.mu_flat.specs.Base.{is_base, is_base_constant}
-use Rattle.mu_flat.specs.Citations.{proof_at}
+use Rattle.mu_flat.specs.ProofTables.{proof_at}
 use Rattle.mu_flat.specs.Edits.{line_refusal, with_line, with_reason, cite_refusal}
 use Rattle.mu_flat.specs.Entries.{Entries, IsPlain, with_theory, with_constant, with_rule, with_items}
 use Rattle.mu_command.specs.declared.command.Command.{Command}

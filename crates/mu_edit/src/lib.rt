@@ -1,6 +1,6 @@
 //! Commands carried out on a store: when each is refused, and what it changes.
 #![tactic(auto)]
 
-mod applying;
+mod changes;
 
-pub use applying::apply;
+pub use changes::apply;

@@ -4,11 +4,11 @@ use Rattle.std.specs.Prelude.{Result, OnOk}
 use Rattle.std.specs.FinMap as finite
 use Rattle.std.proofs.lemmas.Result.{on_ok_weaker}
 use Rattle.mu_tree.specs.Maps.{NamesOf}
-use Rattle.mu_graph.specs.Passes.{Adds, IsBlank}
+use Rattle.mu_graph.specs.KeySets.{Adds, IsBlank}
 use Rattle.mu_graph.proofs.NameLemmas.{empty_is_blank, adds_on_ok}
-use Rattle.mu_check.specs.declared.citing.Cited.{Cited}
-use Rattle.mu_check.specs.declared.citing.Cited.TheVariants.{Rule, Morphism}
-use Rattle.mu_flat.specs.Citations.{is_marked}
+use Rattle.mu_proof.specs.declared.citations.Cited.{Cited}
+use Rattle.mu_proof.specs.declared.citations.Cited.TheVariants.{Rule, Morphism}
+use Rattle.mu_flat.specs.CitedSets.{is_marked}
 
 -- two empty sets mark nothing
 pub empty_are_blank : (rules morphisms : NamesOf) → rules ≡ finite.empty → morphisms ≡ finite.empty → IsBlank (is_marked rules morphisms)

@@ -1,5 +1,5 @@
 -- What rules lead to after an edit of a proof.
-use Rattle.std.proofs.Common.{◌≡◌, inl, inr, refl, sym, ap, subst, ◌∙◌, cond, ℕ, true, false, List, [], ◌∷◌, ◌++◌, take, drop, length, Option, Some, None, arith}
+use Rattle.std.proofs.Common.{◌≡◌, inl, inr, refl, sym, ap, subst, ◌∙◌, cond, ℕ, Bool, true, false, List, [], ◌∷◌, ◌++◌, take, drop, length, Option, Some, None, arith}
 use Rattle.std.specs.Prelude.{◌⊎◌, is_some}
 use Rattle.std.specs.List.{flat_map, insert}
 use Rattle.std.specs.Option.{option_map_or}
@@ -8,6 +8,7 @@ use Rattle.std.specs.declared.cmp.Ordering.TheVariants.{Less, Equal, Greater}
 use Rattle.std.specs.Cmp.Lexicographic.{slice_cmp, nat_list_cmp_total}
 use Rattle.std.specs.FinMap as finite
 use Rattle.std.specs.FinMap.Entries.{by_order, put, find}
+use Rattle.std.proofs.lemmas.Bool.{false≢true, and_parts, cond-true, or_cases}
 use Rattle.std.proofs.lemmas.Grind.{flat_map-append}
 use Rattle.std.proofs.lemmas.List.{take-append-drop}
 use Rattle.mu_tree.specs.Maps.{MapOf, NamesOf}
@@ -17,21 +18,23 @@ use Rattle.mu_tree.specs.declared.why.Why.{Why}
 use Rattle.mu_tree.specs.declared.why.Why.TheVariants as why
 use Rattle.mu_tree.proofs.MapLemmas.{same_name, get-insert_here, get-insert_other, contains_key-insert}
 use Rattle.mu_graph.specs.Derivations.{Stands}
-use Rattle.mu_graph.specs.Circles.{DiffersAt}
+use Rattle.mu_graph.specs.Circles.{DiffersAt, GainsAt}
 use Rattle.mu_graph.proofs.DerivationLemmas.{stands_front, stands_back, stands_either}
-use Rattle.mu_proof.specs.Lines.{is_line_at, with_why, why_step, rejustified}
-use Rattle.mu_proof.specs.Proofs.{with_why_at}
-use Rattle.mu_proof.specs.declared.item.Item.{Item}
-use Rattle.mu_proof.specs.declared.item.Item.TheOpen.{Item-F, Line, Block}
-use Rattle.mu_proof.specs.declared.item.Item.TheVariants as item
-use Rattle.mu_proof.specs.declared.item.Item.TheViews.{out-Item, roll-Item, roll-out-Item}
-use Rattle.mu_check.specs.Citations.{item_cites, cites, cited_by, morphism_cited}
-use Rattle.mu_check.specs.declared.citing.Cited.{Cited}
-use Rattle.mu_check.specs.declared.citing.Cited.TheVariants.{Rule, Morphism}
-use Rattle.mu_check.proofs.CitationEquations.{cites-line}
-use Rattle.mu_flat.specs.Citations.{ProofsOf, proofs_of, proof_at, with_proof, with_reason_in, with_reason_at, cited_in, leads, HasAllCited, AddsCited}
+use Rattle.mu_proof.specs.Items.{is_line, is_line_at, line_step, with_why, why_step, rejustified}
+use Rattle.mu_proof.specs.Proofs.{is_line_label, with_why_at}
+use Rattle.mu_proof.specs.declared.items.Item.{Item}
+use Rattle.mu_proof.specs.declared.items.Item.TheOpen.{Item-F, Line, Block}
+use Rattle.mu_proof.specs.declared.items.Item.TheFolds.{fold_out-Item, map-Item}
+use Rattle.mu_proof.specs.declared.items.Item.TheVariants as item
+use Rattle.mu_proof.specs.declared.items.Item.TheViews.{out-Item, roll-Item, roll-out-Item}
+use Rattle.mu_proof.specs.Citations.{item_cites, cites, cited_by, morphism_cited}
+use Rattle.mu_proof.specs.declared.citations.Cited.{Cited}
+use Rattle.mu_proof.specs.declared.citations.Cited.TheVariants.{Rule, Morphism}
+use Rattle.mu_proof.proofs.CitationEquations.{cites-line}
+use Rattle.mu_flat.specs.CiterTables.{CitersOf, citers_of, with_citer, HasAllCiters, AddsCiter}
+use Rattle.mu_flat.specs.ProofTables.{ProofsOf, proofs_of, proof_at, with_proof, has_line_at, with_reason_in, with_reason_at, cited_in, leads}
 use Rattle.mu_flat.specs.Edits.{IsOpenLine}
-use Rattle.mu_flat.proofs.Circles.{one_rule}
+use Rattle.mu_flat.proofs.ProofTables.{proof_at-with_proof}
 
 -- ---- maps of lists
 module _ {V K : Type 0} (links : V → List K) where
@@ -129,6 +132,24 @@ module _ (label : List ℕ) (why : Option Why) where
     | inr t ↦ elim (reason_cites items to t) [ inl u ↦ inl u | inr u ↦ inr (stands_back to (item_cites i) (cites items) u) ]
   ]
 
+-- where a line has the label, all that the reason cites
+step_there : (why : Option Why) (y : Item-F Item) → line_step (map-Item Item Bool is_line y) ≡ true → (to : Cited) → Stands to (cited_by why) → Stands to (item_cites (why_step why y))
+step_there why (Line label tree before) is to s = subst (Stands to) (sym (cites-line label tree why)) s
+step_there why (Block label vars assumptions items) is to s = absurd (false≢true is)
+
+module _ (label : List ℕ) (why : Option Why) where
+  rejustified_there : (i : Item) → is_line_at label i ≡ true → (to : Cited) → Stands to (cited_by why) → Stands to (item_cites (rejustified label why i))
+  rejustified_there i at to s =
+      subst (λ j. Stands to (item_cites j)) (sym (cond-true (is_line_at label i) (with_why why i) i at))
+      (step_there why (out-Item i) (sym (fold_out-Item Bool line_step i) ∙ (and_parts _ _ at).1) to s)
+
+  pub reason_there : (items : List Item) → is_line_label items label ≡ true → (to : Cited) → Stands to (cited_by why) → Stands to (cites (with_why_at items label why))
+  reason_there [] is to s = absurd (false≢true is)
+  reason_there (i ∷ items) is to s = elim (or_cases _ _ is) [
+    | inl at ↦ stands_front to (item_cites (rejustified label why i)) (cites (with_why_at items label why)) (rejustified_there i at to s)
+    | inr later ↦ stands_back to (item_cites (rejustified label why i)) (cites (with_why_at items label why)) (reason_there items later to s)
+  ]
+
 -- with one more item, a proof cites what the item does and what it cited before
 pub insert_cites : (items : List Item) (at : ℕ) (line : Item) (to : Cited) → Stands to (cites (insert items at line)) → Stands to (item_cites line) ⊎ Stands to (cites items)
 insert_cites items at line to s =
@@ -173,23 +194,63 @@ module _ (proofs : ProofsOf) (rule proof label : List ℕ) (why : Option Why) wh
       go (Some items) is t = edit_leads proofs rule proof (with_why_at items label why) (cited_by why)
           (λ other u. elim (reason_cites label why items other u) [ inl v ↦ inl v | inr v ↦ inr (cited_leads proofs rule proof items is other v) ]) from to t
 
--- ---- the rules that are cited
--- a set that grows with a reason has all that is cited, where only what the reason cites is led to anew
-pub all_cited_still : (before after : ProofsOf) (why : Option Why) (old new : NamesOf) → ((from to : Cited) → Stands to (leads after from) → Stands to (cited_by why) ⊎ Stands to (leads before from))
-    → AddsCited old new why → HasAllCited old before → HasAllCited new after
-all_cited_still before after why old new grows adds all rule from s = elim (grows from (Rule rule) s) [ inl t ↦ adds.1 rule t | inr t ↦ adds.0 rule (all rule from t) ]
+  -- and all of it is led to, where there is such a line
+  pub reason_gains : has_line_at label (proof_at proofs rule proof) ≡ true → GainsAt (leads proofs) (leads (with_reason_at proofs rule proof label why)) (Rule rule) (cited_by why)
+  reason_gains is = record {
+    others = reason_differs;
+    there = λ m s. go (proof_at proofs rule proof) is m s;
+    only = λ m s. reason_leads (Rule rule) m s;
+  }
+    where
+      go : (found : Option (List Item)) → has_line_at label found ≡ true → (m : Cited) → Stands m (cited_by why) → Stands m (leads (with_reason_in proofs rule proof label why found) (Rule rule))
+      go None is m s = absurd (false≢true is)
+      go (Some items) is m s =
+          let edited : List Item = with_why_at items label why in
+          cited_leads (with_proof proofs rule proof edited) rule proof edited (proof_at-with_proof proofs rule proof edited) m (reason_there label why items is m s)
+
+-- ---- the rules that cite a rule
+one_known : (a b : List ℕ) → Rule a ≡ Rule b → a ≡ b
+one_known a b e = cc
+
+-- a table that gains what a rule gains has all that cite a rule
+pub all_citers_still : (before after : ProofsOf) (rule : List ℕ) (why : Option Why) (old new : CitersOf) → GainsAt (leads before) (leads after) (Rule rule) (cited_by why) → AddsCiter old new rule why
+    → HasAllCiters old before → HasAllCiters new after
+all_citers_still before after rule why old new gains adds all to from s = elim (gains.others (Rule from)) [
+  | inr same ↦ adds.0 to from (all to from (subst (Stands (Rule to)) same s))
+  | inl e ↦ elim (gains.only (Rule to) (subst (λ n. Stands (Rule to) (leads after n)) (sym e) s)) [
+    | inl new_one ↦ subst (λ (citer : List ℕ). finite.contains_key (citers_of new to) citer ≡ true) (one_known rule from e) (adds.1 to new_one)
+    | inr old_one ↦ adds.0 to from (all to from (subst (λ n. Stands (Rule to) (leads before n)) e old_one))
+  ]
+]
 
 no_rule_of : (via : Option (List ℕ)) (name : List ℕ) → Stands (Rule name) (morphism_cited via) → ⊥
 no_rule_of None name s = s
 no_rule_of (Some morphism) name (inl e) = let no : Morphism morphism ≡ Rule name = e in cc
 no_rule_of (Some morphism) name (inr s) = s
 
--- a set with one more rule has the rule that a reason cites
-pub rule_added : (set : NamesOf) (rule : List ℕ) (via : Option (List ℕ)) (refs : List Ref) (given : List Given) → AddsCited set (finite.insert set rule tt) (Some (why.Rule rule via refs given))
-rule_added set rule via refs given = (
-  contains_key-insert set rule tt,
-  λ name s. elim s [
-    | inl e ↦ let same : rule ≡ name = one_rule rule name e in subst (λ k. finite.contains_key (finite.insert set rule tt) k ≡ true) same (ap is_some (get-insert_here set rule tt))
-    | inr t ↦ absurd (no_rule_of via name t)
-  ],
-)
+module _ (citers : CitersOf) (rule citer : List ℕ) where
+  citers_here : citers_of (with_citer citers rule citer) rule ≡ finite.insert (citers_of citers rule) citer tt
+  citers_here = ap (λ found. option_map_or (λ (names : NamesOf). names) found finite.empty) (get-insert_here citers rule (finite.insert (citers_of citers rule) citer tt))
+
+  stays : (to from : List ℕ) → finite.contains_key (citers_of citers to) from ≡ true → finite.contains_key (citers_of (with_citer citers rule citer) to) from ≡ true
+  stays to from is = elim (same_name rule to) [
+    | inl e ↦
+        subst (λ (name : List ℕ). finite.contains_key (citers_of (with_citer citers rule citer) name) from ≡ true) e
+        (subst (λ (names : NamesOf). finite.contains_key names from ≡ true) (sym citers_here)
+        (contains_key-insert (citers_of citers rule) citer tt from (subst (λ (name : List ℕ). finite.contains_key (citers_of citers name) from ≡ true) (sym e) is)))
+    | inr n ↦
+        subst (λ (names : NamesOf). finite.contains_key names from ≡ true)
+        (sym (ap (λ found. option_map_or (λ (names : NamesOf). names) found finite.empty) (get-insert_other citers rule (finite.insert (citers_of citers rule) citer tt) to n))) is
+  ]
+
+  -- a table with one more citer has the one of the rule that a reason cites
+  pub citer_added : (via : Option (List ℕ)) (refs : List Ref) (given : List Given) → AddsCiter citers (with_citer citers rule citer) citer (Some (why.Rule rule via refs given))
+  citer_added via refs given = (
+    stays,
+    λ name s. elim s [
+      | inl e ↦
+          subst (λ (to : List ℕ). finite.contains_key (citers_of (with_citer citers rule citer) to) citer ≡ true) (one_known rule name e)
+          (subst (λ (names : NamesOf). finite.contains_key names citer ≡ true) (sym citers_here) (ap is_some (get-insert_here (citers_of citers rule) citer tt)))
+      | inr t ↦ absurd (no_rule_of via name t)
+    ],
+  )

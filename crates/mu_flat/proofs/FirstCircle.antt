@@ -5,10 +5,11 @@ use Rattle.std.specs.List.{find}
 use Rattle.std.specs.FinMap as finite
 use Rattle.std.proofs.lemmas.Bool.{false≢true}
 use Rattle.mu_graph.specs.Circles.{IsAcyclic, IsFirstOf, OnCircle}
-use Rattle.mu_check.specs.declared.citing.Cited.TheVariants.{Rule}
-use Rattle.mu_flat.specs.Citations.{leads, is_on_circle, first_circle}
-use Rattle.mu_flat.specs.Laws.{CirclesAreExact}
-use Rattle.mu_flat.proofs.Circles.{on_circle_so, told_acyclic}
+use Rattle.mu_proof.specs.declared.citations.Cited.TheVariants.{Rule}
+use Rattle.mu_flat.specs.Circles.{is_on_circle, first_circle}
+use Rattle.mu_flat.specs.ProofTables.{leads}
+use Rattle.mu_flat.specs.Circles.{CirclesAreExact}
+use Rattle.mu_flat.proofs.CircleLemmas.{on_circle_so, told_acyclic}
 
 module _ {N : Type 0} (test : N → Bool) (P : N → Type 0) (exact : (n : N) → IsTrue (test n) ↔ P n) where
   -- what is found is the first of which P holds

@@ -1,27 +1,33 @@
 -- A store keeps what it has to keep at every moment.
-use Rattle.std.proofs.Common.{◌≡◌, sym, subst, ℕ, false, List, Option, None}
+use Rattle.std.proofs.Common.{◌≡◌, ◌∙◌, ap, sym, subst, ℕ, true, false, List, Option, Some, None}
 use Rattle.std.specs.Prelude.{Result, Ok, Err, OnOk, OnErr}
 use Rattle.std.specs.FinMap as finite
-use Rattle.mu_tree.specs.Maps.{NamesOf}
+use Rattle.std.specs.Option.{option_map}
+use Rattle.mu_tree.specs.declared.refusal.Refusal.TheVariants.{Circle}
 use Rattle.mu_tree.specs.declared.why.Why.{Why}
 use Rattle.mu_decl.specs.declared.declaration.ConstDecl.{ConstDecl}
 use Rattle.mu_decl.specs.declared.declaration.Statement.{Statement}
-use Rattle.mu_graph.specs.Circles.{DiffersAt, IsAcyclic}
+use Rattle.mu_graph.specs.Circles.{GainsAt, IsAcyclic}
 use Rattle.mu_graph.specs.Derivations.{Stands}
 use Rattle.mu_graph.proofs.CircleLemmas.{fewer_edges_acyclic}
-use Rattle.mu_check.specs.declared.citing.Cited.{Cited}
-use Rattle.mu_check.specs.declared.citing.Cited.TheVariants.{Rule}
+use Rattle.mu_proof.specs.Citations.{cited_by}
+use Rattle.mu_proof.specs.declared.citations.Cited.{Cited}
+use Rattle.mu_proof.specs.declared.citations.Cited.TheVariants.{Rule}
 use Rattle.mu_flat.specs.Base.{is_base, base_table}
-use Rattle.mu_flat.specs.Citations.{ProofsOf, leads, with_reason_at, first_circle, HasAllCited, AddsCited}
+use Rattle.mu_flat.specs.Circles.{first_circle}
+use Rattle.mu_flat.specs.CiterTables.{CitersOf, HasAllCiters, AddsCiter}
+use Rattle.mu_flat.specs.ProofTables.{ProofsOf, leads, has_line_at, proof_at, with_reason_at}
+use Rattle.mu_flat.specs.Edits.{cite_refusal}
 use Rattle.mu_flat.specs.Entries.{IsPlain, IsTheory}
-use Rattle.mu_flat.specs.Views.{IsKept, entries_of}
-use Rattle.mu_flat.specs.declared.store.Store.TheInside.{Inside}
-use Rattle.mu_flat.proofs.Circles.{told_acyclic}
-use Rattle.mu_flat.proofs.Citing.{reason_differs, reason_leads, all_cited_still}
-use Rattle.mu_flat.proofs.Validity.{valid_initial, none_cited, valid_theory, valid_constant, valid_rule, valid_proofs}
+use Rattle.mu_flat.specs.Stores.{IsKept, entries_of}
+use Rattle.mu_flat.specs.declared.stores.Store.TheInside.{Inside}
+use Rattle.mu_flat.proofs.CircleLemmas.{told_acyclic}
+use Rattle.mu_flat.proofs.Citing.{reason_gains, all_citers_still}
+use Rattle.mu_flat.proofs.Refusals.{circle_alone, unrefused}
+use Rattle.mu_flat.proofs.Validity.{valid_initial, none_cite, valid_theory, valid_constant, valid_rule, valid_proofs}
 
-pub kept_initial : IsKept (record { theories = finite.empty; constants = base_table; rules = finite.empty; proofs = finite.empty; cited = finite.empty })
-kept_initial = record { valid = valid_initial; cited = none_cited }
+pub kept_initial : IsKept (record { theories = finite.empty; constants = base_table; rules = finite.empty; proofs = finite.empty; citers = finite.empty })
+kept_initial = record { valid = valid_initial; citers = none_cite }
 
 -- what holds of the old value and of the one that is wanted holds after an edit that fails or not
 pub settled : {X T E : Type 0} (P : X → Type 0) (old wanted new : X) (result : Result T E) → OnOk result (new ≡ wanted) → OnErr result (new ≡ old) → P old → P wanted → P new
@@ -30,38 +36,36 @@ settled P old wanted new (Err x) ok err before after = subst P (sym err) before
 
 module _ (inside : Inside) (kept : IsKept inside) where
   pub kept_theory : (name : List ℕ) → IsPlain name → is_base name ≡ false → IsKept (record inside { theories = finite.insert inside.theories name tt })
-  kept_theory name plain other = record { valid = valid_theory (entries_of inside) kept.valid name plain other; cited = kept.cited }
+  kept_theory name plain other = record { valid = valid_theory (entries_of inside) kept.valid name plain other; citers = kept.citers }
 
   pub kept_constant : (name : List ℕ) (declared : ConstDecl) → IsPlain name → IsTheory (entries_of inside) declared.theory → IsKept (record inside { constants = finite.insert inside.constants name declared })
-  kept_constant name declared plain there = record { valid = valid_constant (entries_of inside) kept.valid name declared plain there; cited = kept.cited }
+  kept_constant name declared plain there = record { valid = valid_constant (entries_of inside) kept.valid name declared plain there; citers = kept.citers }
 
   pub kept_rule : (name : List ℕ) (statement : Statement) → IsPlain name → IsTheory (entries_of inside) statement.theory → IsKept (record inside { rules = finite.insert inside.rules name statement })
-  kept_rule name statement plain there = record { valid = valid_rule (entries_of inside) kept.valid name statement plain there; cited = kept.cited }
+  kept_rule name statement plain there = record { valid = valid_rule (entries_of inside) kept.valid name statement plain there; citers = kept.citers }
 
-  -- proofs by which no rule leads back to itself, and a set with all the rules that they cite
-  pub kept_proofs : (proofs : ProofsOf) (cited : NamesOf) → IsAcyclic (leads proofs) → HasAllCited cited proofs → IsKept (record inside { proofs = proofs; cited = cited })
-  kept_proofs proofs cited acyclic all = record { valid = valid_proofs (entries_of inside) kept.valid proofs acyclic; cited = all }
+  -- proofs by which no rule leads back to itself, and a table with all that cite a rule
+  pub kept_proofs : (proofs : ProofsOf) (citers : CitersOf) → IsAcyclic (leads proofs) → HasAllCiters citers proofs → IsKept (record inside { proofs = proofs; citers = citers })
+  kept_proofs proofs citers acyclic all = record { valid = valid_proofs (entries_of inside) kept.valid proofs acyclic; citers = all }
 
   -- proofs that cite no more
   pub kept_fewer : (proofs : ProofsOf) → ((from to : Cited) → Stands to (leads proofs from) → Stands to (leads inside.proofs from)) → IsKept (record inside { proofs = proofs })
   kept_fewer proofs fewer =
-      kept_proofs proofs inside.cited (fewer_edges_acyclic (leads proofs) (leads inside.proofs) fewer kept.valid.acyclic) (λ rule from s. kept.cited rule from (fewer from (Rule rule) s))
+      kept_proofs proofs inside.citers (fewer_edges_acyclic (leads proofs) (leads inside.proofs) fewer kept.valid.acyclic) (λ rule from s. kept.citers rule from (fewer (Rule from) (Rule rule) s))
 
-  -- the proofs as they were, and a set of cited rules with more
-  pub kept_restored : (proofs : ProofsOf) (cited : NamesOf) (why : Option Why) → proofs ≡ inside.proofs → AddsCited inside.cited cited why → IsKept (record inside { proofs = proofs; cited = cited })
-  kept_restored proofs cited why same adds =
-      let before : IsKept (record inside { cited = cited }) = record { valid = kept.valid; cited = λ rule from s. adds.0 rule (kept.cited rule from s) } in
-      subst (λ (all : ProofsOf). IsKept (record inside { proofs = all; cited = cited })) (sym same) before
+  -- what is told of circles after another reason of a line tells whether the edit is refused, as there is no circle before
+  pub permitted : (rule proof label : List ℕ) (why : Why) (first : Option (List ℕ)) → has_line_at label (proof_at inside.proofs rule proof) ≡ true
+      → ((after : ProofsOf) → GainsAt (leads inside.proofs) (leads after) (Rule rule) (cited_by (Some why)) → first ≡ first_circle after) → cite_refusal (entries_of inside) rule proof label why ≡ option_map Circle first
+  permitted rule proof label why first there told =
+      circle_alone (entries_of inside) rule proof label why there
+      ∙ ap (option_map Circle) (sym (told (with_reason_at inside.proofs rule proof label (Some why)) (reason_gains inside.proofs rule proof label (Some why) there)))
 
-  -- another reason of a line
-  module _ (rule proof label : List ℕ) (why : Option Why) (proofs : ProofsOf) (cited : NamesOf) (is : proofs ≡ with_reason_at inside.proofs rule proof label why) where
-    pub cited_after : AddsCited inside.cited cited why → HasAllCited cited proofs
-    cited_after adds = subst (λ (all : ProofsOf). HasAllCited cited all) (sym is)
-        (all_cited_still inside.proofs (with_reason_at inside.proofs rule proof label why) why inside.cited cited (reason_leads inside.proofs rule proof label why) adds kept.cited)
-
-    -- what is told of circles after it is so, as there was none before
-    pub told_after : (first : Option (List ℕ)) → ((before : ProofsOf) → IsAcyclic (leads before) → DiffersAt (leads before) (leads proofs) (Rule rule) → first ≡ first_circle proofs) → first ≡ first_circle proofs
-    told_after first told = told inside.proofs kept.valid.acyclic (subst (λ (all : ProofsOf). DiffersAt (leads inside.proofs) (leads all) (Rule rule)) (sym is) (reason_differs inside.proofs rule proof label why))
-
-    pub kept_reason : AddsCited inside.cited cited why → None ≡ first_circle proofs → IsKept (record inside { proofs = proofs; cited = cited })
-    kept_reason adds told = kept_proofs proofs cited (told_acyclic proofs told) (cited_after adds)
+  -- a citation that is not refused
+  pub kept_cited : (rule proof label : List ℕ) (why : Why) (proofs : ProofsOf) (citers : CitersOf) → proofs ≡ with_reason_at inside.proofs rule proof label (Some why)
+      → has_line_at label (proof_at inside.proofs rule proof) ≡ true → cite_refusal (entries_of inside) rule proof label why ≡ None → AddsCiter inside.citers citers rule (Some why)
+      → IsKept (record inside { proofs = proofs; citers = citers })
+  kept_cited rule proof label why proofs citers is there free adds =
+      let after : ProofsOf = with_reason_at inside.proofs rule proof label (Some why) in
+      kept_proofs proofs citers
+      (subst (λ (all : ProofsOf). IsAcyclic (leads all)) (sym is) (told_acyclic after (unrefused (entries_of inside) rule proof label why there free)))
+      (subst (λ (all : ProofsOf). HasAllCiters citers all) (sym is) (all_citers_still inside.proofs after rule (Some why) inside.citers citers (reason_gains inside.proofs rule proof label (Some why) there) adds kept.citers))

@@ -1,4 +1,4 @@
-pub mod Circles
+pub mod CircleLemmas
 pub mod CitedMarks
 pub mod Citing
 pub mod Contexts

@@ -8,14 +8,19 @@ use Rattle.std.specs.Cmp.Lexicographic.{slice_cmp}
 use Rattle.mu_tree.specs.Maps.{MapOf}
 use Rattle.mu_tree.proofs.MapLemmas.{get-insert_here, insert_twice, insert_got}
 use Rattle.mu_tree.specs.declared.why.Why.{Why}
-use Rattle.mu_proof.specs.declared.item.Item.{Item}
+use Rattle.mu_proof.specs.declared.items.Item.{Item}
 use Rattle.mu_proof.specs.Proofs.{with_why_at}
-use Rattle.mu_flat.specs.Citations.{ProofsOf, proofs_of, proof_at, with_proof, with_reason_in, with_reason_at}
+use Rattle.mu_flat.specs.ProofTables.{ProofsOf, proofs_of, proof_at, with_proof, has_line_at, with_reason_in, with_reason_at}
 
 -- what is found, or else another value, is found where anything is
 pub found_there : {V : Type 0} (found : Option V) (value other : V) → is_some found ≡ true → value ≡ unwrap_or found other → found ≡ Some value
 found_there None value other there is = absurd (cc)
 found_there (Some v) value other there is = ap Some (sym is)
+
+-- where a line was found, its proof is there
+pub line_found : (label : List ℕ) (found : Option (List Item)) → has_line_at label found ≡ true → is_some found ≡ true
+line_found label None is = is
+line_found label (Some items) is = refl
 
 module _ {V : Type 0} (table : MapOf V) (name : List ℕ) (meanwhile : V) where
   has_name : (out : MapOf V) → out ≡ finite.insert table name meanwhile → finite.contains_key out name ≡ true
@@ -26,13 +31,14 @@ module _ {V : Type 0} (table : MapOf V) (name : List ℕ) (meanwhile : V) where
       → back ≡ finite.insert table name value
   put_back value out back found is had there = there (had ∙ has_name out is) ∙ ap (λ t. finite.insert t name value) is ∙ insert_twice table name meanwhile value
 
+-- what is found, or else another value
+pub known_else : {V : Type 0} (found : Option V) (other : V) → unwrap_or found other ≡ option_map_or (λ (there : V). there) found other
+known_else None other = refl
+known_else (Some there) other = refl
+
 -- what a table has at a rule, or none where it has nothing
 pub taken : (proofs : ProofsOf) (rule : List ℕ) → unwrap_or (finite.get proofs rule) finite.empty ≡ proofs_of proofs rule
-taken proofs rule = of (finite.get proofs rule)
-  where
-    of : (found : Option (MapOf (List Item))) → unwrap_or found finite.empty ≡ option_map_or (λ (f : MapOf (List Item)). f) found finite.empty
-    of None = refl
-    of (Some f) = refl
+taken proofs rule = known_else (finite.get proofs rule) finite.empty
 
 -- a rule that is not there has no proof
 pub proof_at-absent : (proofs : ProofsOf) (rule proof : List ℕ) → finite.contains_key proofs rule ≡ false → proof_at proofs rule proof ≡ None

@@ -1,20 +1,21 @@
 -- Why an edit of a proof is refused, and which edit it is.
-use Rattle.std.proofs.Common.{◌≡◌, sym, ap, ◌∙◌, ℕ, true, List, Option, Some, None}
+use Rattle.std.proofs.Common.{◌≡◌, refl, sym, ap, ◌∙◌, ℕ, true, List, Option, Some, None}
 use Rattle.std.specs.Prelude.{◌≢◌, option_and_then, Result, Ok, Err, IfErr, OnErr, IsErrAnd}
 use Rattle.std.specs.Option.{option_map}
 use Rattle.std.proofs.lemmas.Bool.{false≢true, cond-true}
 use Rattle.mu_tree.specs.declared.refusal.Refusal.{Refusal}
 use Rattle.mu_tree.specs.declared.refusal.Refusal.TheVariants.{Unknown, Taken, Circle, TooMany}
-use Rattle.mu_tree.specs.declared.refusal.Count.TheVariants as count
+use Rattle.mu_tree.specs.declared.refusal.CountWord.TheVariants as count
 use Rattle.mu_tree.specs.declared.why.Why.{Why}
 use Rattle.mu_proof.specs.Proofs.{is_line_label, insert_fault, inserted}
 use Rattle.mu_proof.specs.declared.fault.ProofFault.{ProofFault}
 use Rattle.mu_proof.specs.declared.fault.ProofFault.TheVariants as fault
-use Rattle.mu_proof.specs.declared.item.Item.{Item}
-use Rattle.mu_flat.specs.Citations.{ProofsOf, has_line_at, proof_at, with_reason_at, first_circle}
+use Rattle.mu_proof.specs.declared.items.Item.{Item}
+use Rattle.mu_flat.specs.Circles.{first_circle}
+use Rattle.mu_flat.specs.ProofTables.{has_line_at, proof_at, with_reason_at}
 use Rattle.mu_flat.specs.Edits.{refused_by, insert_refusal, line_refusal, with_line_in, with_line, reason_refusal, cite_refusal, edit_fault}
 use Rattle.mu_flat.specs.Entries.{Entries, with_items}
-use Rattle.mu_flat.specs.declared.fault.EditFault.TheVariants as edit
+use Rattle.mu_flat.specs.declared.edits.EditFault.TheVariants as edit
 
 module _ (e : Entries) (rule proof label : List ℕ) (why : Why) where
   -- where the line is there, the edit is refused by the first circle alone
@@ -25,10 +26,13 @@ module _ (e : Entries) (rule proof label : List ℕ) (why : Why) where
       go None h = absurd (false≢true h)
       go (Some items) h = cond-true (is_line_label items label) (option_map Circle (first_circle (with_reason_at e.proofs rule proof label (Some why)))) (Some (Unknown label)) h
 
-  -- so what is told of the proofs after the edit tells whether it is refused
-  pub circle_told : (proofs : ProofsOf) (first : Option (List ℕ)) → has_line_at label (proof_at e.proofs rule proof) ≡ true → proofs ≡ with_reason_at e.proofs rule proof label (Some why) → first ≡ first_circle proofs
-      → cite_refusal e rule proof label why ≡ option_map Circle first
-  circle_told proofs first there is told = circle_alone there ∙ ap (option_map Circle) (ap first_circle (sym is) ∙ sym told)
+  -- so where it is not refused, none leads back to itself afterwards
+  pub unrefused : has_line_at label (proof_at e.proofs rule proof) ≡ true → cite_refusal e rule proof label why ≡ None → None ≡ first_circle (with_reason_at e.proofs rule proof label (Some why))
+  unrefused there free = go (first_circle (with_reason_at e.proofs rule proof label (Some why))) (sym (circle_alone there) ∙ free)
+    where
+      go : (first : Option (List ℕ)) → option_map Circle first ≡ None → None ≡ first
+      go None is = refl
+      go (Some name) is = cc
 
 -- a fault that is a refusal is no want of memory
 refused_so : (blame : ProofFault) (refusal : Refusal) → edit_fault blame ≡ edit.Refused refusal → (refused_by blame ≡ Some refusal) × (blame ≡ fault.NoMemory → ⊥)

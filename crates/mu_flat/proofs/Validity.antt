@@ -15,10 +15,11 @@ use Rattle.mu_decl.specs.declared.declaration.Statement.{Statement}
 use Rattle.mu_graph.specs.Circles.{IsAcyclic}
 use Rattle.mu_graph.specs.Derivations.{Stands}
 use Rattle.mu_graph.proofs.Decided.{circle_leaves}
-use Rattle.mu_check.specs.declared.citing.Cited.{Cited}
-use Rattle.mu_check.specs.declared.citing.Cited.TheVariants.{Rule, Morphism}
+use Rattle.mu_proof.specs.declared.citations.Cited.{Cited}
+use Rattle.mu_proof.specs.declared.citations.Cited.TheVariants.{Rule, Morphism}
 use Rattle.mu_flat.specs.Base.{is_base, is_base_constant, base_constants}
-use Rattle.mu_flat.specs.Citations.{ProofsOf, leads, cited_in, HasAllCited}
+use Rattle.mu_flat.specs.CiterTables.{HasAllCiters}
+use Rattle.mu_flat.specs.ProofTables.{ProofsOf, leads, cited_in}
 use Rattle.mu_flat.specs.Entries.{Entries, IsValid, IsPlain, IsTheory, initial, with_theory, with_constant, with_rule}
 
 no_entry : {V : Type 0} (name : List ℕ) (value : V) → finite.get (finite.empty {X = V} {R = slice_cmp nat_cmp}) name ≡ Some value → ⊥
@@ -59,8 +60,8 @@ valid_initial = record {
   acyclic = λ n on. let edge = circle_leaves (leads finite.empty) n on in none_lead n edge.0 edge.1;
 }
 
-pub none_cited : HasAllCited finite.empty finite.empty
-none_cited rule from s = absurd (none_lead from (Rule rule) s)
+pub none_cite : HasAllCiters finite.empty finite.empty
+none_cite rule from s = absurd (none_lead (Rule from) (Rule rule) s)
 
 -- ---- a store with more
 some_mark : (o : Option (Unit {0})) → is_some o ≡ true → o ≡ Some tt

@@ -8,7 +8,7 @@ use Rattle.mu_tree.specs.Maps.{MapOf}
 use Rattle.mu_tree.specs.declared.claim.Kind.{Kind}
 use Rattle.mu_tree.specs.declared.claim.Kind.TheVariants.{E, T}
 use Rattle.mu_tree.specs.declared.claim.Shape.TheVariants as shape
-use Rattle.mu_decl.specs.Worlds.{base}
+use Rattle.mu_decl.specs.Contexts.{base}
 use Rattle.mu_decl.specs.declared.declaration.ConstDecl.{ConstDecl}
 
 -- the name is that of the base theory

@@ -8,8 +8,8 @@ use Rattle.mu_decl.specs.contracts.declaration.ConstDecl as constant
 use Rattle.mu_decl.specs.contracts.declaration.Statement as statement
 use Rattle.mu_decl.specs.declared.declaration.ConstDecl.{ConstDecl}
 use Rattle.mu_decl.specs.declared.declaration.Statement.{Statement}
-use Rattle.mu_proof.specs.contracts.item.Item as item
-use Rattle.mu_flat.specs.Citations.{ProofsOf}
+use Rattle.mu_proof.specs.contracts.items.Item as item
+use Rattle.mu_flat.specs.ProofTables.{ProofsOf}
 use Rattle.mu_flat.specs.Entries.{Entries}
 
 -- the code of a store's entries: that of its four maps

@@ -3,17 +3,18 @@ use Rattle.std.specs.Prelude.{◌≡◌, ℕ, List, Option, Some, None, option_a
 use Rattle.std.specs.Option.{option_map}
 use Rattle.mu_tree.specs.declared.refusal.Refusal.{Refusal}
 use Rattle.mu_tree.specs.declared.refusal.Refusal.TheVariants.{Unknown, Taken, Circle, TooMany}
-use Rattle.mu_tree.specs.declared.refusal.Count.TheVariants as count
+use Rattle.mu_tree.specs.declared.refusal.CountWord.TheVariants as count
 use Rattle.mu_tree.specs.declared.why.Why.{Why}
-use Rattle.mu_tree.specs.declared.tree.Tree.{Tree}
-use Rattle.mu_proof.specs.declared.item.Item.{Item}
-use Rattle.mu_proof.specs.declared.item.Item.TheVariants as item
+use Rattle.mu_tree.specs.declared.trees.Tree.{Tree}
+use Rattle.mu_proof.specs.declared.items.Item.{Item}
+use Rattle.mu_proof.specs.declared.items.Item.TheVariants as item
 use Rattle.mu_proof.specs.declared.fault.ProofFault.{ProofFault}
 use Rattle.mu_proof.specs.declared.fault.ProofFault.TheVariants as fault
 use Rattle.mu_proof.specs.Proofs.{is_line_label, insert_fault, inserted}
-use Rattle.mu_flat.specs.declared.fault.EditFault.{EditFault}
-use Rattle.mu_flat.specs.declared.fault.EditFault.TheVariants as edit
-use Rattle.mu_flat.specs.Citations.{ProofsOf, proof_at, with_reason_at, first_circle}
+use Rattle.mu_flat.specs.declared.edits.EditFault.{EditFault}
+use Rattle.mu_flat.specs.declared.edits.EditFault.TheVariants as edit
+use Rattle.mu_flat.specs.Circles.{first_circle}
+use Rattle.mu_flat.specs.ProofTables.{ProofsOf, proof_at, with_reason_at}
 use Rattle.mu_flat.specs.Entries.{Entries, with_items}
 
 -- the refusal that a fault of a proof's edit is; want of memory is none

@@ -4,13 +4,13 @@ use Rattle.std.specs.FinMap as finite
 use Rattle.mu_tree.specs.Maps.{MapOf, NamesOf}
 use Rattle.mu_tree.specs.Names.{is_segment}
 use Rattle.mu_decl.specs.Nothing.{seen_alone}
-use Rattle.mu_decl.specs.Worlds.{World}
+use Rattle.mu_decl.specs.Contexts.{World}
 use Rattle.mu_decl.specs.declared.declaration.ConstDecl.{ConstDecl}
 use Rattle.mu_decl.specs.declared.declaration.Statement.{Statement}
 use Rattle.mu_graph.specs.Circles.{IsAcyclic}
-use Rattle.mu_proof.specs.declared.item.Item.{Item}
+use Rattle.mu_proof.specs.declared.items.Item.{Item}
 use Rattle.mu_flat.specs.Base.{is_base, is_base_constant, base_table}
-use Rattle.mu_flat.specs.Citations.{ProofsOf, leads, with_proof}
+use Rattle.mu_flat.specs.ProofTables.{ProofsOf, leads, with_proof}
 
 -- a store as finite maps by name
 pub record Entries : Type 0 where

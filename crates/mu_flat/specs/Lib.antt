@@ -1,8 +1,10 @@
 pub mod Base
-pub mod Citations
+pub mod Circles
+pub mod CitedSets
+pub mod CiterTables
 pub mod Codes
+pub mod Contexts
 pub mod Edits
 pub mod Entries
-pub mod Laws
-pub mod Seen
-pub mod Views
+pub mod ProofTables
+pub mod Stores

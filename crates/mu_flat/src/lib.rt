@@ -2,16 +2,15 @@
 #![tactic(auto)]
 
 mod base;
-mod circle;
-mod fault;
-mod marks;
-mod proof_table;
-mod store;
-#[cfg(test)]
-mod tests;
+mod circles;
+mod cited_sets;
+mod citer_tables;
+mod edits;
+mod proof_tables;
+mod stores;
 
 pub use base::{is_base, is_base_constant};
-pub use fault::EditFault;
-pub use marks::CitedSet;
-pub use proof_table::ProofTable;
-pub use store::Store;
+pub use cited_sets::CitedSet;
+pub use edits::EditFault;
+pub use proof_tables::ProofTable;
+pub use stores::Store;

@@ -4,12 +4,12 @@ use Rattle.std.specs.Prelude.{◌⊎◌}
 use Rattle.std.specs.List.{AllByRecursion}
 use Rattle.std.proofs.lemmas.Bool.{false≢true, false_from_ne_true, cond-true, cond-false}
 use Rattle.std.proofs.lemmas.List.Sums.{sum_by-cons, count_by-le-length}
-use Rattle.mu_graph.specs.Circles.{Steps, LeadsTo, OnCircle, IsFirstOf, NoneOf}
+use Rattle.mu_graph.specs.Circles.{OnCircle, IsFirstOf, NoneOf}
 use Rattle.mu_graph.specs.Decisions.{derivable, is_derivable, arrival, arrivals, leads_to, on_circle}
 use Rattle.mu_graph.specs.Derivations.{Stands, AllStand, StandsInSome, MayFollow, MayStart, is_ready, IsReached}
-use Rattle.mu_graph.specs.Passes.{IsBlank}
-use Rattle.mu_graph.specs.Walks.{IsLedTo}
-use Rattle.mu_graph.proofs.CircleLemmas.{edge_then_path}
+use Rattle.mu_graph.specs.KeySets.{IsBlank}
+use Rattle.mu_graph.specs.Walks.{Steps, LeadsTo, IsLedTo}
+use Rattle.mu_graph.proofs.PathLemmas.{edge_then_path}
 use Rattle.mu_graph.proofs.DerivationLemmas.{stands_one, stands_map, stands_from, all_at, all_from, all_stand, ready_some, some_ready, stands_in_some_by, reached_by, reached_in}
 use Rattle.mu_graph.proofs.WalkLemmas.{led_next}
 
@@ -129,7 +129,8 @@ module _ {N : Type 0} where
 
   -- ---- paths
   module _ (leads : N → List N) where
-    last_edge : (k : ℕ) (a b : N) → Steps leads k a b → (c : N) × Stands b (leads c)
+    -- the last edge of a path
+    pub last_edge : (k : ℕ) (a b : N) → Steps leads k a b → (c : N) × Stands b (leads c)
     last_edge zero a b s = (a, s)
     last_edge (suc k) a b s = last_edge k s.0 b s.2
 
@@ -137,10 +138,7 @@ module _ {N : Type 0} where
     first_edge zero a b s = (b, s)
     first_edge (suc k) a b s = (s.0, s.1)
 
-    -- some edge ends at a key that is on a circle, and some edge begins there
-    pub circle_enters : (n : N) → OnCircle leads n → (a : N) × Stands n (leads a)
-    circle_enters n o = last_edge o.0 n n o.1
-
+    -- some edge begins at a key that is on a circle
     pub circle_leaves : (n : N) → OnCircle leads n → (m : N) × Stands m (leads n)
     circle_leaves n o = first_edge o.0 n n o.1
 

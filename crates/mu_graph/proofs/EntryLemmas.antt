@@ -1,7 +1,9 @@
 -- The entries of a finite map by name as members of a list.
 use Rattle.std.proofs.Common.{refl, sym, ap, subst, ◌∙◌, ◌≡◌, ℕ, Bool, true, false, List, [], ◌∷◌, map, Some, None, inl, inr}
 use Rattle.std.specs.Prelude.{◌&&◌, T}
-use Rattle.std.specs.Ordering.{nat_cmp, eq_by_cmp, is_eq, is_lt}
+use Rattle.std.specs.Ordering.{nat_cmp, eq_by_cmp, is_eq, is_lt, is_gt, ordering_reverse}
+use Rattle.std.specs.declared.cmp.Ordering.{Ordering}
+use Rattle.std.specs.declared.cmp.Ordering.TheVariants.{Less, Equal, Greater}
 use Rattle.std.specs.Cmp.{tied_itself}
 use Rattle.std.specs.Cmp.Lexicographic.{slice_cmp, nat_list_cmp_total}
 use Rattle.std.specs.FinMap as finite
@@ -10,6 +12,7 @@ use Rattle.std.proofs.lemmas.Bool.{false≢true, cases_Bool, cond-true, cond-fal
 use Rattle.std.proofs.lemmas.Map.Lookups.{exact_bytes}
 use Rattle.std.proofs.lemmas.Map.Views.{tells_apart}
 use Rattle.mu_tree.specs.Maps.{MapOf}
+use Rattle.mu_graph.specs.Circles.{IsFirstOf}
 use Rattle.mu_graph.specs.Derivations.{Stands}
 use Rattle.mu_graph.specs.Walks.{AreDistinct}
 use Rattle.mu_graph.proofs.DerivationLemmas.{stands_map}
@@ -25,6 +28,11 @@ and_right false b h = absurd h
 not_below_itself : (name : List ℕ) → T (is_lt (slice_cmp nat_cmp name name)) → ⊥
 not_below_itself name h = subst (λ order. T (is_lt order)) (tied_itself nat_list_cmp_total name) h
 
+turned : (o : Ordering) → T (is_lt o) → is_gt (ordering_reverse o) ≡ false → ⊥
+turned Less below fits = false≢true (sym fits)
+turned Equal below fits = below
+turned Greater below fits = below
+
 module _ {V : Type 0} where
   -- the keys after a key that is below them all are greater
   all_below : (name : List ℕ) (entries : List (List ℕ × V)) → T (below_all (slice_cmp nat_cmp) name entries) → (other : List ℕ) → Stands other (map (λ entry. entry.0) entries) → T (is_lt (slice_cmp nat_cmp name other))
@@ -39,6 +47,20 @@ module _ {V : Type 0} where
   -- no name has two entries
   pub distinct_keys : (m : MapOf V) → AreDistinct (finite.keys m)
   distinct_keys m = distinct_sorted (finite.entries m) (finite.entries_sorted m)
+
+  least_first : (P : List ℕ → Type 0) (name : List ℕ) → P name → ((other : List ℕ) → P other → is_gt (slice_cmp nat_cmp name other) ≡ false)
+      → (entries : List (List ℕ × V)) → T (is_sorted (slice_cmp nat_cmp) entries) → Stands name (map (λ entry. entry.0) entries) → IsFirstOf P (map (λ entry. entry.0) entries) name
+  least_first P name p least [] h s = s
+  least_first P name p least (entry ∷ entries) h (inl e) = inl (e, subst P (sym e) p)
+  least_first P name p least (entry ∷ entries) h (inr s) =
+      inr (λ q. not_less (all_below entry.0 entries (and_left _ _ h) name s) (least entry.0 q), least_first P name p least entries (and_right _ _ h) s)
+    where
+      not_less : T (is_lt (slice_cmp nat_cmp entry.0 name)) → is_gt (slice_cmp nat_cmp name entry.0) ≡ false → ⊥
+      not_less below fits = turned (slice_cmp nat_cmp entry.0 name) below (sym (ap is_gt (nat_list_cmp_total.antisymm name entry.0)) ∙ fits)
+
+  -- the least of the keys of which P holds is the first of them
+  pub least_is_first : (m : MapOf V) (P : List ℕ → Type 0) (name : List ℕ) → Stands name (finite.keys m) → P name → ((other : List ℕ) → P other → is_gt (slice_cmp nat_cmp name other) ≡ false) → IsFirstOf P (finite.keys m) name
+  least_is_first m P name s p least = least_first P name p least (finite.entries m) (finite.entries_sorted m) s
 
   found_first : (entries : List (List ℕ × V)) → AreDistinct (map (λ entry. entry.0) entries) → (name : List ℕ) (value : V) → Stands (name, value) entries → find (slice_cmp nat_cmp) name entries ≡ Some value
   found_first [] distinct name value s = absurd s

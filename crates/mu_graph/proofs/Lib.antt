@@ -1,8 +1,9 @@
+mod RuleLemmas
 pub mod CircleLemmas
 pub mod Decided
 pub mod DerivationLemmas
 pub mod EntryLemmas
 pub mod NameLemmas
 pub mod PassLemmas
-mod RuleLemmas
+pub mod PathLemmas
 pub mod WalkLemmas

@@ -13,7 +13,7 @@ use Rattle.mu_tree.specs.Maps.{MapOf, NamesOf}
 use Rattle.mu_tree.proofs.MapLemmas.{same_name, get-insert_here, get-insert_other, contains_key-insert}
 use Rattle.mu_graph.specs.Derivations.{Stands}
 use Rattle.mu_graph.specs.Names.{led_by}
-use Rattle.mu_graph.specs.Passes.{Adds}
+use Rattle.mu_graph.specs.KeySets.{Adds}
 
 -- an empty set marks no name
 pub empty_is_blank : (name : List ℕ) → let none : NamesOf = map.empty in map.contains_key none name ≡ false

@@ -2,8 +2,8 @@
 use Rattle.std.proofs.Common.{arith, sym, subst, ◌∙◌, ◌≡◌, Bool, true, false, List, [], ◌∷◌, ◌++◌, length-append, inl, inr}
 use Rattle.std.specs.Prelude.{◌⊎◌}
 use Rattle.std.proofs.lemmas.Bool.{false≢true}
-use Rattle.mu_graph.specs.Derivations.{Stands, is_ready, IsReached}
-use Rattle.mu_graph.specs.Passes.{Passed, Adds}
+use Rattle.mu_graph.specs.Derivations.{Stands, is_ready, IsReached, Passed}
+use Rattle.mu_graph.specs.KeySets.{Adds}
 use Rattle.mu_graph.proofs.DerivationLemmas.{stands_front, stands_either, stands_one, stands_last, ready_some, some_ready, reached_by, reached_in}
 
 module _ {N : Type 0} (ways : N → List (List N)) where

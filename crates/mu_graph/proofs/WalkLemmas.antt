@@ -1,16 +1,15 @@
 -- One key after another in a walk, and what stands where none is left to look at.
 use Rattle.std.proofs.Common.{arith, refl, sym, ap, subst, ◌∙◌, ◌≡◌, ◌<◌, ◌≤◌, ◌+◌, append_assoc, length-append, map, ℕ, zero, suc, Bool, true, false, cond, List, [], ◌∷◌, ◌++◌, length, inl, inr}
-use Rattle.std.specs.Prelude.{◌⊎◌}
+use Rattle.std.specs.Prelude.{◌⊎◌, ◌↔◌, IsTrue}
 use Rattle.std.proofs.lemmas.Bool.{false≢true}
 use Rattle.std.proofs.lemmas.List.{append-nil, length-map}
 use Rattle.mu_graph.specs.Derivations.{Stands}
-use Rattle.mu_graph.specs.Passes.{Adds, IsBlank}
-use Rattle.mu_graph.specs.Circles.{Steps}
-use Rattle.mu_graph.specs.Walks.{IsLedTo, Walked, AreDistinct, Lists, entering, leaving, unmarked}
-use Rattle.mu_graph.specs.declared.walk.Step.{Step}
-use Rattle.mu_graph.specs.declared.walk.Step.TheVariants.{Enter, Leave}
-use Rattle.mu_graph.proofs.CircleLemmas.{path_then_edge}
+use Rattle.mu_graph.specs.KeySets.{Adds, IsBlank}
+use Rattle.mu_graph.specs.Walks.{Steps, LeadsTo, IsLedTo, Walked, AreDistinct, Lists, AreInOrder, AreAwaited, IsWalk, Advances, entering, leaving, unmarked, remaining}
+use Rattle.mu_graph.specs.declared.walks.Step.{Step}
+use Rattle.mu_graph.specs.declared.walks.Step.TheVariants.{Enter, Leave}
 use Rattle.mu_graph.proofs.DerivationLemmas.{stands_front, stands_back, stands_either, stands_one, stands_last}
+use Rattle.mu_graph.proofs.PathLemmas.{path_then_edge}
 
 module _ {N : Type 0} where
   -- ---- steps
@@ -198,3 +197,179 @@ module _ {N : Type 0} (leads : N → List N) where
       let here : Stands n (entering old) = subst (λ ns. Stands n ns) (sym (ap entering is_old ∙ entering_last work n)) (stands_last n (entering work)) in
       let longer : length new ≡ length work + suc (length (leads n)) = ap length is_new ∙ length-append work (Leave n ∷ map Enter (leads n)) ∙ ap (λ k. length work + suc k) (length-map (leads n) Enter) in
       omega (arith, ap length is_old, longer, length-append work (Enter n ∷ []), unmarked_falls marked next n added not_yet (starts ++ universe) (led_within universe within starts n (w.sound n (inr here))))
+
+  -- ---- the order in which keys are left
+  awaited_all : (marked : N → Bool) (ns : List N) → AreAwaited leads marked (map Enter ns)
+  awaited_all marked [] = tt
+  awaited_all marked (n ∷ ns) = awaited_all marked ns
+
+  module _ (marked : N → Bool) (n : N) where
+    -- all that the last key to be left leads to is marked
+    last_awaited : (steps : List (Step N)) → AreAwaited leads marked (steps ++ Leave n ∷ []) → (m : N) → Stands m (leads n) → marked m ≡ true
+    last_awaited [] a m s = elim (a.0 m s) [ inl h ↦ h | inr none ↦ absurd none ]
+    last_awaited (Enter k ∷ steps) a m s = last_awaited steps a m s
+    last_awaited (Leave k ∷ steps) a m s = last_awaited steps a.2 m s
+
+    -- a key that is to be left later leads to it
+    later_leads : (steps : List (Step N)) → AreAwaited leads marked (steps ++ Leave n ∷ []) → (m : N) → Stands m (leaving steps) → LeadsTo leads m n
+    later_leads [] a m s = absurd s
+    later_leads (Enter k ∷ steps) a m s = later_leads steps a m s
+    later_leads (Leave k ∷ steps) a m s = elim (stands_either m (leaving steps) (k ∷ []) s) [
+      | inl t ↦ later_leads steps a.2 m t
+      | inr t ↦ subst (λ j. LeadsTo leads j n) (stands_one m k t) (a.1 n (inr (subst (Stands n) (sym (leaving_left steps n)) (inl refl))))
+    ]
+
+    -- it is left: the other steps stay as they are
+    awaited_left : (steps : List (Step N)) → AreAwaited leads marked (steps ++ Leave n ∷ []) → AreAwaited leads marked steps
+    awaited_left [] a = tt
+    awaited_left (Enter k ∷ steps) a = awaited_left steps a
+    awaited_left (Leave k ∷ steps) a = (
+      λ m s. elim (a.0 m s) [ inl h ↦ inl h | inr t ↦ inr (subst (Stands m) (entering_left steps n) t) ],
+      λ m c. a.1 m (elim c [ inl t ↦ inl (subst (Stands m) (sym (entering_left steps n)) t) | inr t ↦ inr (subst (Stands m) (sym (leaving_left steps n)) (inr t)) ]),
+      awaited_left steps a.2,
+    )
+
+    -- a marked key needn't be looked at
+    awaited_skipped : marked n ≡ true → (steps : List (Step N)) → AreAwaited leads marked (steps ++ Enter n ∷ []) → AreAwaited leads marked steps
+    awaited_skipped h [] a = tt
+    awaited_skipped h (Enter k ∷ steps) a = awaited_skipped h steps a
+    awaited_skipped h (Leave k ∷ steps) a = (
+      λ m s. elim (a.0 m s) [
+        | inl at ↦ inl at
+        | inr t ↦ elim (stands_either m (entering steps) (n ∷ []) (subst (Stands m) (entering_last steps n) t)) [
+          | inl u ↦ inr u
+          | inr u ↦ inl (subst (λ j. marked j ≡ true) (stands_one m n u) h)
+        ]
+      ],
+      λ m c. a.1 m (elim c [
+        | inl t ↦ inl (subst (Stands m) (sym (entering_last steps n)) (stands_front m (entering steps) (n ∷ []) t))
+        | inr t ↦ inr (subst (Stands m) (sym (leaving_last steps n)) t)
+      ]),
+      awaited_skipped h steps a.2,
+    )
+
+    -- a key is marked, and is to be left after all that it leads to
+    awaited_visited : (next : N → Bool) → Adds marked next n → (steps : List (Step N)) → AreAwaited leads marked (steps ++ Enter n ∷ []) → AreAwaited leads next (steps ++ Leave n ∷ map Enter (leads n))
+    awaited_visited next added [] a = (
+      λ m s. inr (subst (Stands m) (sym (entering_all (leads n))) s),
+      λ m c. elim c [
+        | inl t ↦ (0, subst (Stands m) (entering_all (leads n)) t)
+        | inr t ↦ absurd (subst (Stands m) (leaving_none (leads n)) t)
+      ],
+      awaited_all next (leads n),
+    )
+    awaited_visited next added (Enter k ∷ steps) a = awaited_visited next added steps a
+    awaited_visited next added (Leave k ∷ steps) a = (
+      λ m s. elim (a.0 m s) [
+        | inl at ↦ inl (added.1 m (inr at))
+        | inr t ↦ elim (stands_either m (entering steps) (n ∷ []) (subst (Stands m) (entering_last steps n) t)) [
+          | inl u ↦ inr (subst (Stands m) (sym (entering_visit steps n (leads n))) (stands_front m (entering steps) (leads n) u))
+          | inr u ↦ inl (added.1 m (inl (stands_one m n u)))
+        ]
+      ],
+      λ m c. elim c [
+        | inl t ↦ elim (stands_either m (entering steps) (leads n) (subst (Stands m) (entering_visit steps n (leads n)) t)) [
+          | inl u ↦ to_old m (inl u)
+          | inr u ↦ path_then_edge leads to_here.0 k n m to_here.1 u
+        ]
+        | inr t ↦ elim (subst (Stands m) (leaving_visit steps n (leads n)) t) [
+          | inl e ↦ subst (LeadsTo leads k) e to_here
+          | inr u ↦ to_old m (inr u)
+        ]
+      ],
+      awaited_visited next added steps a.2,
+    )
+      where
+        to_old : (m : N) → Stands m (entering steps) ⊎ Stands m (leaving steps) → LeadsTo leads k m
+        to_old m c = a.1 m (elim c [
+          | inl t ↦ inl (subst (Stands m) (sym (entering_last steps n)) (stands_front m (entering steps) (n ∷ []) t))
+          | inr t ↦ inr (subst (Stands m) (sym (leaving_last steps n)) t)
+        ])
+
+        to_here : LeadsTo leads k n
+        to_here = a.1 n (inl (subst (Stands n) (sym (entering_last steps n)) (stands_last n (entering steps))))
+
+  -- one more key behind all that it leads to, but for what leads back to it
+  one_ordered : (before left : List N) (n : N) → AreInOrder leads before left → ((m : N) → Stands m (leads n) → (Stands m before ⊎ Stands m left) ⊎ LeadsTo leads m n) → AreInOrder leads before (left ++ n ∷ [])
+  one_ordered before [] n o f = (λ m s. elim (f m s) [ inl (inl t) ↦ inl t | inl (inr none) ↦ absurd none | inr back ↦ inr back ], tt)
+  one_ordered before (k ∷ left) n o f = (
+    o.0,
+    one_ordered (k ∷ before) left n o.1 (λ m s. elim (f m s) [
+      | inl (inl t) ↦ inl (inl (inr t))
+      | inl (inr (inl e)) ↦ inl (inl (inl e))
+      | inl (inr (inr t)) ↦ inl (inr t)
+      | inr back ↦ inr back
+    ]),
+  )
+
+  -- what a key in such a list leads to stands before it, but for what leads back to it
+  pub ordered_at : (before front back : List N) (n : N) → AreInOrder leads before (front ++ n ∷ back) → (m : N) → Stands m (leads n) → (Stands m before ⊎ Stands m front) ⊎ LeadsTo leads m n
+  ordered_at before [] back n o m s = elim (o.0 m s) [ inl t ↦ inl (inl t) | inr far ↦ inr far ]
+  ordered_at before (k ∷ front) back n o m s = elim (ordered_at (k ∷ before) front back n o.1 m s) [
+    | inl (inl (inl e)) ↦ inl (inr (inl e))
+    | inl (inl (inr t)) ↦ inl (inl t)
+    | inl (inr t) ↦ inl (inr (inr t))
+    | inr far ↦ inr far
+  ]
+
+  -- ---- one step
+  pub walk_starts : (starts : List N) (marked : N → Bool) → IsBlank marked → IsWalk leads starts marked [] (map Enter starts)
+  walk_starts starts marked blank = record {
+    walked = subst (Walked leads starts marked) (sym (entering_all starts)) (walk_begins starts marked blank);
+    lists = subst (Lists marked) (sym (leaving_none starts)) (none_listed marked blank);
+    ordered = tt;
+    awaited = awaited_all marked starts;
+  }
+
+  pub none_left : (universe : List N) (marked : N → Bool) (left : List N) → Advances leads universe false marked marked left left [] []
+  none_left universe marked left = record { walk = λ starts w. w; less = λ e. absurd (false≢true e); ends = λ _. refl }
+
+  pub one_left : (universe : List N) (marked : N → Bool) (left : List N) (steps : List (Step N)) (n : N) → Advances leads universe true marked marked left (left ++ n ∷ []) (steps ++ Leave n ∷ []) steps
+  one_left universe marked left steps n = record {
+    walk = λ starts w.
+        let lists : Lists marked (left ++ n ∷ leaving steps) = subst (λ back. Lists marked (left ++ back)) (leaving_left steps n) w.lists in
+        record {
+          walked = subst (Walked leads starts marked) (entering_left steps n) w.walked;
+          lists = subst (Lists marked) (sym (append_assoc left (n ∷ []) (leaving steps))) lists;
+          ordered = one_ordered [] left n w.ordered (λ m s. elim (stands_either m left (n ∷ leaving steps) (lists.marked_stand m (last_awaited marked n steps w.awaited m s))) [
+            | inl t ↦ inl (inr t)
+            | inr (inl e) ↦ inr (0, subst (λ j. Stands n (leads j)) e (subst (λ j. Stands j (leads n)) (sym e) s))
+            | inr (inr t) ↦ inr (later_leads marked n steps w.awaited m t)
+          ]);
+          awaited = awaited_left marked n steps w.awaited;
+        };
+    less = λ _ starts w. omega (arith, length-append steps (Leave n ∷ []));
+    ends = λ e. absurd (false≢true (sym e));
+  }
+
+  pub one_skipped : (universe : List N) (marked : N → Bool) (left : List N) (steps : List (Step N)) (n : N) → marked n ≡ true → Advances leads universe true marked marked left left (steps ++ Enter n ∷ []) steps
+  one_skipped universe marked left steps n h = record {
+    walk = λ starts w. record {
+      walked = walk_skips starts marked (entering steps) n (subst (Walked leads starts marked) (entering_last steps n) w.walked) h;
+      lists = subst (λ back. Lists marked (left ++ back)) (leaving_last steps n) w.lists;
+      ordered = w.ordered;
+      awaited = awaited_skipped marked n h steps w.awaited;
+    };
+    less = λ _ starts w. omega (arith, length-append steps (Enter n ∷ []));
+    ends = λ e. absurd (false≢true (sym e));
+  }
+
+  pub one_visited : (universe : List N) → ((n m : N) → Stands m (leads n) → Stands m universe) → (marked next : N → Bool) (left : List N) (steps : List (Step N)) (n : N) → marked n ≡ false → Adds marked next n
+      → Advances leads universe true marked next left left (steps ++ Enter n ∷ []) (steps ++ Leave n ∷ map Enter (leads n))
+  one_visited universe within marked next left steps n not_yet added = record {
+    walk = λ starts w. record {
+      walked = subst (Walked leads starts next) (sym (entering_visit steps n (leads n)))
+          (walk_visits starts marked (entering steps) n (subst (Walked leads starts marked) (entering_last steps n) w.walked) next added);
+      lists = subst (λ back. Lists next (left ++ back)) (sym (leaving_visit steps n (leads n)))
+          (one_listed marked next left (leaving steps) n (subst (λ back. Lists marked (left ++ back)) (leaving_last steps n) w.lists) not_yet added);
+      ordered = w.ordered;
+      awaited = awaited_visited marked n next added steps w.awaited;
+    };
+    less = λ _ starts w. walk_falls universe within starts marked next (steps ++ Enter n ∷ []) (steps ++ Leave n ∷ map Enter (leads n)) steps n refl refl w.walked not_yet added;
+    ends = λ e. absurd (false≢true (sym e));
+  }
+
+  -- where a step was the last, what is marked is what is reachable
+  pub last_step : (universe : List N) (starts : List N) (marked next : N → Bool) (left then_left : List N) (steps then_steps : List (Step N)) → Advances leads universe false marked next left then_left steps then_steps
+      → IsWalk leads starts marked left steps → (n : N) → IsTrue (next n) ↔ IsLedTo leads starts n
+  last_step universe starts marked next left then_left steps then_steps a w = walk_ends starts next (subst (λ work. Walked leads starts next (entering work)) (a.ends refl) (a.walk starts w).walked)

@@ -1,5 +1,5 @@
 -- Derivations as lists, each member of which has its premises before it.
-use Rattle.std.specs.Prelude.{◌≡◌, ◌⊎◌, Bool, true, List, [], ◌∷◌}
+use Rattle.std.specs.Prelude.{◌≡◌, ◌⊎◌, ◌≤◌, Bool, true, false, List, [], ◌∷◌, length}
 use Rattle.std.specs.List.{AllByRecursion, list_any, list_all}
 
 -- n is a member of the list
@@ -35,3 +35,15 @@ IsReached start ways n = StandsInSome (MayStart start ways) n
 -- whether one of the ways has all its premises marked
 abbrev pub is_ready : {N : Type 0} → (N → Bool) → List (List N) → Bool
 is_ready marked ways = list_any (λ way. list_all marked way) ways
+
+-- each marked key is derivable
+abbrev pub AreReached : {N : Type 0} → (N → Bool) → (N → List (List N)) → (N → Bool) → Type 0
+AreReached {N} start ways marked = (n : N) → marked n ≡ true → IsReached start ways n
+
+-- a pass from the marks `before` and the keys `pending` to the marks `after` and the keys `left`
+pub record Passed {N : Type 0} (ways : N → List (List N)) (before after : N → Bool) (pending left : List N) : Type 0 where
+  pub sound : (start : N → Bool) → AreReached start ways before → AreReached start ways after
+  pub stay : (n : N) → before n ≡ true → after n ≡ true
+  pub covers : (n : N) → (before n ≡ true) ⊎ Stands n pending → (after n ≡ true) ⊎ Stands n left
+  pub fewer : length left ≤ length pending
+  pub quiet : length left ≡ length pending → (n : N) → Stands n left → is_ready after (ways n) ≡ false

@@ -1,7 +1,7 @@
 pub mod Circles
 pub mod Decisions
 pub mod Derivations
+pub mod KeySets
 pub mod Members
 pub mod Names
-pub mod Passes
 pub mod Walks

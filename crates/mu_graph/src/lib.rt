@@ -1,13 +1,15 @@
-//! Derivations and directed graphs: what is derivable, what is reachable, and what is on a circle.
+//! Derivations and directed graphs: what is derivable, what is reachable, and what closes circles.
 #![tactic(auto)]
 
-mod circle;
-mod engine;
+mod circles;
+mod derivations;
+mod key_sets;
 mod names;
 #[cfg(test)]
 mod tests;
-mod walk;
+mod walks;
 
-pub use circle::{first_on_circle, leads_back};
-pub use engine::{Causes, Marks, reached};
-pub use walk::{Edges, reachable, spread};
+pub use circles::{are_apart, between};
+pub use derivations::{Inferences, reached};
+pub use key_sets::KeySet;
+pub use walks::{Edges, reachable};

@@ -1,14 +1,14 @@
-ghost use Rattle.std.specs.Prelude.{◌≡◌, IfOk};
+ghost use Rattle.std.specs.Prelude.{◌≡◌};
 ghost use Rattle.std.specs.FinMap as map;
 ghost use Rattle.mu_graph.specs.Names.{led_by, linked, leads_linked};
 
-use crate::engine::Marks;
-use crate::walk::Edges;
-use mu_tree::{Duplicate, Name, NameSet, Names, NoMemory, Table};
+use crate::key_sets::{KeySet, copies};
+use crate::walks::Edges;
+use mu_tree::{Name, NameSet, Names, NoMemory, Table};
 use std::alloc::Global;
 
 /// A set of names marks its members.
-impl Marks for NameSet {
+impl KeySet for NameSet {
     type Key = Name;
 
     ghost marked = { map.contains_key };
@@ -28,7 +28,7 @@ impl Marks for NameSet {
 
 /// A map from names to lists of names, in which a name leads to those in its list.
 impl Edges for Table<Names> {
-    type Marks = NameSet;
+    type Set = NameSet;
 
     ghost leads = { led_by (λ names. names) };
 
@@ -42,15 +42,4 @@ impl Edges for Table<Names> {
             None => Ok(Vec::new(alloc)),
         }
     }
-}
-
-/// Copies of names, in order.
-fn copies(alloc: Global, names: &[Name]) -> Result<Vec<Name>, NoMemory>
-    ensures { IfOk result (λ copies. copies.items ≡ names.now) }
-{
-    let mut copies = Vec::new(alloc);
-    for name in names {
-        copies.push(name.duplicate(alloc)?)?;
-    }
-    Ok(copies)
 }

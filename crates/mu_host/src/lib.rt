@@ -1,6 +1,6 @@
 //! Standard input and standard output of the running process.
 #![tactic(auto)]
 
-mod host;
+mod hosts;
 
-pub use host::Host;
+pub use hosts::Host;

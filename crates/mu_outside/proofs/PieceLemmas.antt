@@ -2,8 +2,8 @@
 use Rattle.std.proofs.Common.{◌≡◌, ◌∙◌, List, [], ◌∷◌, ◌++◌, refl, sym, ap, append_assoc}
 use Rattle.std.proofs.lemmas.List.{append-nil}
 use Rattle.mu_outside.specs.Pieces.{piece_of, printed_by}
-use Rattle.mu_outside.specs.declared.log.Call.{Call}
-use Rattle.mu_outside.specs.declared.log.Call.TheVariants.{Silent}
+use Rattle.mu_outside.specs.declared.logs.Call.{Call}
+use Rattle.mu_outside.specs.declared.logs.Call.TheVariants.{Silent}
 
 -- one more call adds its bytes at the end
 pub printed_by_push : (calls : List Call) (call : Call) → printed_by (calls ++ call ∷ []) ≡ printed_by calls ++ piece_of call

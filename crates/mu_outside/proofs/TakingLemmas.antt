@@ -1,8 +1,8 @@
 -- Moving the first bytes of the input into a buffer.
 use Rattle.std.proofs.Common.{◌≡◌, ◌∙◌, ◌<◌, min, ℕ, List, ◌++◌, length, take, drop, Ok, Some, ap, sym, arith, length-append, take-append-drop}
 use Rattle.std.proofs.lemmas.List.{take_at, length-take, nil_from_length}
-use Rattle.mu_outside.specs.Seen.{Takes}
-use Rattle.mu_outside.specs.declared.outside.Failed.{Failed}
+use Rattle.mu_outside.specs.Outsides.{Takes}
+use Rattle.mu_outside.specs.declared.outsides.Failed.{Failed}
 
 -- as many first bytes as there is room for are taken
 pub takes_first : (left later buf filled : List ℕ) (count : ℕ) → count ≡ min (length left) (length buf) → filled ≡ take count left ++ drop count buf

@@ -2,10 +2,10 @@
 use Rattle.std.specs.Prelude.{◌≡◌, ◌⊎◌, ℕ, List, [], ◌∷◌, ◌++◌, take, drop, Some}
 use Rattle.std.specs.List.{Contains}
 use Rattle.mu_outside.specs.Counts.{counted}
-use Rattle.mu_outside.specs.Seen.{Seen}
+use Rattle.mu_outside.specs.Outsides.{Observed}
 use Rattle.mu_outside.specs.declared.faults.Faults.{Faults}
-use Rattle.mu_outside.specs.declared.log.Call.{Call}
-use Rattle.mu_outside.specs.declared.log.Call.TheVariants.{Silent, Told}
+use Rattle.mu_outside.specs.declared.logs.Call.{Call}
+use Rattle.mu_outside.specs.declared.logs.Call.TheVariants.{Silent, Told}
 
 -- all that is known of a desk between two calls
 pub record DeskState : Type 0 where
@@ -31,7 +31,7 @@ pub record DeskState : Type 0 where
   pub starved : ℕ
 
 -- what a run knows of the desk
-abbrev pub known_by : DeskState → Seen
+abbrev pub known_by : DeskState → Observed
 known_by desk = record { left = Some desk.left; told = Some desk.told; read_faults = desk.read_faults; tell_faults = desk.tell_faults }
 
 -- a desk before its first call

@@ -1,5 +1,5 @@
-pub mod Seen
 pub mod Counts
-pub mod Pieces
-pub mod Logs
 pub mod Desks
+pub mod Logs
+pub mod Outsides
+pub mod Pieces

@@ -2,7 +2,7 @@
 use Rattle.std.specs.Prelude.{ℕ, List, [], ◌∷◌, ◌++◌}
 use Rattle.mu_outside.specs.Counts.{counted}
 use Rattle.mu_outside.specs.Pieces.{piece_of}
-use Rattle.mu_outside.specs.declared.log.Call.{Call}
+use Rattle.mu_outside.specs.declared.logs.Call.{Call}
 
 -- the calls that were noted, the bytes that they printed, and how many calls there was no memory to note
 pub record LogState : Type 0 where

@@ -1,7 +1,7 @@
 -- What a list of calls printed.
 use Rattle.std.specs.Prelude.{ℕ, List, [], ◌∷◌, ◌++◌}
-use Rattle.mu_outside.specs.declared.log.Call.{Call}
-use Rattle.mu_outside.specs.declared.log.Call.TheVariants.{Silent, Told}
+use Rattle.mu_outside.specs.declared.logs.Call.{Call}
+use Rattle.mu_outside.specs.declared.logs.Call.TheVariants.{Silent, Told}
 
 -- the bytes that one call printed
 abbrev pub piece_of : Call → List ℕ

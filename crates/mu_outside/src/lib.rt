@@ -1,12 +1,12 @@
 //! Standard input and standard output behind one trait, and a device in memory that implements it.
 #![tactic(auto)]
 
-mod count;
-mod desk;
+mod counts;
+mod desks;
 mod faults;
-mod log;
-mod outside;
+mod logs;
+mod outsides;
 
-pub use desk::Desk;
+pub use desks::Desk;
 pub use faults::Faults;
-pub use outside::{Failed, Outside};
+pub use outsides::{Failed, Outside};

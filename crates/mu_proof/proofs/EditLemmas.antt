@@ -13,15 +13,15 @@ use Rattle.std.proofs.lemmas.Map.Keys.{IsDistinct-cons, IsDistinct-head, IsDisti
 use Rattle.std.proofs.lemmas.List.Elements.{All-cons, All-map}
 use Rattle.std.proofs.lemmas.List.{length-map, set-get_or}
 use Rattle.mu_tree.specs.declared.why.Why.{Why}
-use Rattle.mu_tree.specs.declared.tree.Tree.{Tree}
+use Rattle.mu_tree.specs.declared.trees.Tree.{Tree}
 use Rattle.mu_tree.specs.declared.claim.TypedVar.{TypedVar}
 use Rattle.mu_proof.specs.declared.fault.ProofFault.{ProofFault}
-use Rattle.mu_proof.specs.declared.item.Item.{Item}
-use Rattle.mu_proof.specs.declared.item.Item.TheOpen.{Item-F, Line, Block}
-use Rattle.mu_proof.specs.declared.item.Item.TheFolds.{map-Item, fold-roll-Item, fold_out-Item}
-use Rattle.mu_proof.specs.declared.item.Item.TheVariants as item
-use Rattle.mu_proof.specs.declared.item.Item.TheViews.{out-Item, roll-Item, out-roll-Item, roll-out-Item}
-use Rattle.mu_proof.specs.Lines.{label_of, is_line, IsLine, has_label, is_line_at, label_step, line_step, with_why, why_step, why_of, reason_step, rejustified}
+use Rattle.mu_proof.specs.declared.items.Item.{Item}
+use Rattle.mu_proof.specs.declared.items.Item.TheOpen.{Item-F, Line, Block}
+use Rattle.mu_proof.specs.declared.items.Item.TheFolds.{map-Item, fold-roll-Item, fold_out-Item}
+use Rattle.mu_proof.specs.declared.items.Item.TheVariants as item
+use Rattle.mu_proof.specs.declared.items.Item.TheViews.{out-Item, roll-Item, out-roll-Item, roll-out-Item}
+use Rattle.mu_proof.specs.Items.{label_of, is_line, IsLine, has_label, is_line_at, label_step, line_step, with_why, why_step, why_of, reason_step, rejustified}
 use Rattle.mu_proof.specs.Proofs.{IsProof, is_label, is_line_label, is_free, root, with_why_at, unless, insert_fault, label_fault, room_fault}
 
 any_step : (b : Bool) (n m : ℕ) (t : Bool) → nat_lt n m ≡ t → nat_lt (cond (not b) (1 + n) 0) (1 + m) ≡ (b || t)

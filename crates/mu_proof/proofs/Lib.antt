@@ -1,1 +1,2 @@
+pub mod CitationEquations
 pub mod EditLemmas

@@ -1,2 +1,3 @@
-pub mod Lines
+pub mod Citations
+pub mod Items
 pub mod Proofs

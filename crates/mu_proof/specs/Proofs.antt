@@ -5,10 +5,10 @@ use Rattle.std.specs.Option.{unwrap_or, option_or}
 use Rattle.std.specs.List.{All, list_any, position, insert, IsDistinct}
 use Rattle.std.specs.Cmp.Lexicographic.{pointwise}
 use Rattle.mu_tree.specs.declared.why.Why.{Why}
-use Rattle.mu_proof.specs.declared.item.Item.{Item}
+use Rattle.mu_proof.specs.declared.items.Item.{Item}
 use Rattle.mu_proof.specs.declared.fault.ProofFault.{ProofFault}
 use Rattle.mu_proof.specs.declared.fault.ProofFault.TheVariants as fault
-use Rattle.mu_proof.specs.Lines.{label_of, IsLine, has_label, is_line_at, rejustified}
+use Rattle.mu_proof.specs.Items.{label_of, IsLine, has_label, is_line_at, rejustified}
 
 -- the name of the whole proof, as of a block
 abbrev pub root : List ℕ

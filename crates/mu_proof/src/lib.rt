@@ -1,10 +1,12 @@
-//! A proof as data: its items in order, and the edits of it.
+//! A proof as data: its items in order, the edits of it, and what it cites.
 #![tactic(auto)]
 
+mod citations;
 mod fault;
-mod item;
-mod proof;
+mod items;
+mod proofs;
 
+pub use citations::{Citations, Cited, cites};
 pub use fault::ProofFault;
-pub use item::{Item, ItemList};
-pub use proof::Proof;
+pub use items::{Item, ItemList};
+pub use proofs::Proof;

@@ -1,32 +1,40 @@
 -- Derivations are those by the ways, and the status that is computed is the one that fits.
-use Rattle.std.proofs.Common.{◌≡◌, refl, sym, ap, subst, ◌∙◌, ℕ, true, false, cond, List, [], ◌∷◌, map, Some, None, IsTrue, ◌↔◌, inl, inr}
-use Rattle.std.specs.Prelude.{◌⊎◌, Option, is_none}
+use Rattle.std.proofs.Common.{◌≡◌, refl, sym, ap, subst, ◌∙◌, ℕ, Bool, true, false, cond, List, [], ◌∷◌, map, Some, None, IsTrue, ◌↔◌, inl, inr}
+use Rattle.std.specs.Prelude.{◌⊎◌, ◌||◌, not, Option, is_none}
 use Rattle.std.specs.Option.{option_map_or}
 use Rattle.std.specs.List.{AllByRecursion, filter, list_any}
 use Rattle.std.specs.FinMap as finite
 use Rattle.std.proofs.lemmas.Bool.{false≢true, false_from_ne_true, cases_Bool, cond-true, cond-false}
-use Rattle.mu_graph.specs.Derivations.{Stands, AllStand, StandsInSome}
-use Rattle.mu_graph.specs.Derivations as by
+use Rattle.mu_graph.specs.Derivations.{Stands, AllStand, StandsInSome, MayFollow}
 use Rattle.mu_graph.proofs.DerivationLemmas.{stands_map, stands_from, stands_one, stands_filter, filter_stands, any_some, some_any, stands_in_some_by}
 use Rattle.mu_graph.proofs.EntryLemmas.{entry_found, found_entry, kept_stands}
 use Rattle.mu_graph.proofs.Decided.{derivable_decides, derived_least}
 use Rattle.mu_decl.specs.declared.declaration.Statement.{Statement}
-use Rattle.mu_proof.specs.declared.item.Item.{Item}
-use Rattle.mu_check.specs.Citations.{cites}
+use Rattle.mu_proof.specs.declared.items.Item.{Item}
+use Rattle.mu_proof.specs.Citations.{cites}
 use Rattle.mu_check.specs.Verdicts.{verdict}
 use Rattle.mu_check.specs.declared.cause.Fault.{Fault}
-use Rattle.mu_check.specs.declared.citing.Cited.{Cited}
-use Rattle.mu_check.specs.declared.citing.Cited.TheVariants.{Rule, Morphism}
-use Rattle.mu_flat.specs.Citations.{proofs_of, proof_at}
+use Rattle.mu_proof.specs.declared.citations.Cited.{Cited}
+use Rattle.mu_proof.specs.declared.citations.Cited.TheVariants.{Rule, Morphism}
+use Rattle.mu_flat.specs.ProofTables.{proofs_of, proof_at}
 use Rattle.mu_flat.specs.Entries.{Entries, world_of}
-use Rattle.mu_status.specs.Derivations.{is_well_formed, HasProof, HasCheckedProof, MayFollow, IsEstablished, HoldsByRules}
-use Rattle.mu_status.specs.Statuses.{SomeChecks, HasStatus, checks, rule_ways, ways, is_established, status_by_proofs, status_of, StatusesAreExact}
+use Rattle.mu_status.specs.Derivations.{is_well_formed, HasProof, HasCheckedProof, MemberMayFollow, IsEstablished, HoldsByRules}
+use Rattle.mu_status.specs.Statuses.{SomeChecks, HasStatus, checks, formed_ways, rule_ways, ways, is_established, status_by_proofs, status_of, StatusesAreExact}
 use Rattle.mu_status.specs.declared.statuses.RuleStatus.{RuleStatus}
 use Rattle.mu_status.specs.declared.statuses.RuleStatus.TheVariants.{IllFormed, Established, Complete, Incomplete, Unproved}
 
 none_from : (verdict : Option Fault) → is_none verdict ≡ true → verdict ≡ None
 none_from None h = refl
 none_from (Some fault) h = absurd (false≢true h)
+
+-- a list of which no member passes keeps none, and keeps some where one does
+none_kept : {X Y : Type 0} (p : X → Bool) (f : X → Y) (xs : List X) → map f (filter p xs) ≡ [] → list_any p xs ≡ false
+none_kept p f [] none = refl
+none_kept p f (x ∷ xs) none = elim (p x) as (λ b. map f (cond b (x ∷ filter p xs) (filter p xs)) ≡ [] → (b || list_any p xs) ≡ false) [ true ↦ λ h. absurd (cc h) | false ↦ λ h. none_kept p f xs h ] none
+
+some_kept : {X Y : Type 0} (p : X → Bool) (f : X → Y) (xs : List X) → (map f (filter p xs) ≡ [] → ⊥) → list_any p xs ≡ true
+some_kept p f [] some = absurd (some refl)
+some_kept p f (x ∷ xs) some = elim (p x) as (λ b. (map f (cond b (x ∷ filter p xs) (filter p xs)) ≡ [] → ⊥) → (b || list_any p xs) ≡ true) [ true ↦ λ _. refl | false ↦ λ h. some_kept p f xs h ] some
 
 module _ (e : Entries) (rule : List ℕ) where
   -- ---- the proofs of a rule
@@ -103,14 +111,14 @@ module _ (e : Entries) (rule : List ℕ) where
 
 module _ (e : Entries) where
   -- ---- derivations
-  may_way : (n : Cited) (before : List Cited) → MayFollow e n before → by.MayFollow (ways e) n before
+  may_way : (n : Cited) (before : List Cited) → MemberMayFollow e n before → MayFollow (ways e) n before
   may_way (Rule rule) before (s, is, (formed, inl holds)) =
       ([], subst (Stands []) (sym (found_ways e rule s is)) (way_stands e rule s [] (formed, inl (holds, refl))), tt)
   may_way (Rule rule) before (s, is, (formed, inr (wants, (items, right, all)))) =
       (cites items, subst (Stands (cites items)) (sym (found_ways e rule s is)) (way_stands e rule s (cites items) (formed, inr (wants, (items, right, refl)))), all)
   may_way (Morphism morphism) before may = absurd may
 
-  way_may : (n : Cited) (before : List Cited) → by.MayFollow (ways e) n before → MayFollow e n before
+  way_may : (n : Cited) (before : List Cited) → MayFollow (ways e) n before → MemberMayFollow e n before
   way_may (Rule rule) before (way, stands, all) =
       let found = ways_found e rule way stands in (
         found.0,
@@ -126,10 +134,10 @@ module _ (e : Entries) where
   way_may (Morphism morphism) before (way, stands, all) = absurd stands
 
   -- derivations in a store are those by its ways
-  pub derived_by_ways : (n : Cited) → StandsInSome (MayFollow e) n ↔ StandsInSome (by.MayFollow (ways e)) n
+  pub derived_by_ways : (n : Cited) → StandsInSome (MemberMayFollow e) n ↔ StandsInSome (MayFollow (ways e)) n
   derived_by_ways n = (
-    stands_in_some_by (MayFollow e) (by.MayFollow (ways e)) may_way n,
-    stands_in_some_by (by.MayFollow (ways e)) (MayFollow e) way_may n,
+    stands_in_some_by (MemberMayFollow e) (MayFollow (ways e)) may_way n,
+    stands_in_some_by (MayFollow (ways e)) (MemberMayFollow e) way_may n,
   )
 
   -- a member with a way is a rule that is there
@@ -218,6 +226,30 @@ module _ (e : Entries) where
     fitting s Complete (formed, not_est, some) = by_proofs_where s formed not_est ∙ complete_where (entries e rule) ((some_checks_decides e rule).1 some)
     fitting s Incomplete (formed, not_est, none, (items, (proof, at))) = by_proofs_where s formed not_est ∙ incomplete_where (proof, items) (entries e rule) (stored e rule proof items at) (none_checks none)
     fitting s Unproved (formed, not_est, none, no_proof) = by_proofs_where s formed not_est ∙ unproved_where (entries e rule) (λ entry stands. no_proof (entry.1, entry_proof e rule entry stands))
+
+  -- ---- ways and proofs that check
+  -- the ways to a well-formed rule
+  pub own_ways : (rule : List ℕ) (s : Statement) → finite.get e.rules rule ≡ Some s → is_well_formed e s ≡ true → ways e (Rule rule) ≡ formed_ways e rule s
+  own_ways rule s is formed = found_ways e rule s is ∙ cond-true (is_well_formed e s) (formed_ways e rule s) [] formed
+
+  -- a well-formed axiom is established
+  axiom_established : (rule : List ℕ) (s : Statement) → finite.get e.rules rule ≡ Some s → is_well_formed e s ≡ true → s.is_axiom ≡ true → is_established e rule ≡ true
+  axiom_established rule s is formed holds = (established_decides rule).1 (Rule rule ∷ [], ((s, is, (formed, inl holds)), tt), inl refl)
+
+  -- a well-formed rule without a derivation has a way exactly where one of its proofs checks
+  pub ways_known : (rule : List ℕ) (s : Statement) → finite.get e.rules rule ≡ Some s → is_well_formed e s ≡ true → is_established e rule ≡ false
+      → (own : List (List Cited)) (empty : Bool) → own ≡ formed_ways e rule s → IsTrue empty ↔ (own ≡ []) → not empty ≡ list_any (checks e rule) (entries e rule)
+  ways_known rule s is formed underived own empty known told = elim (cases_Bool s.is_axiom) [
+    | inl holds ↦ absurd (false≢true (sym underived ∙ axiom_established rule s is formed holds))
+    | inr wants ↦ go empty told (known ∙ cond-false s.is_axiom ([] ∷ []) kept wants)
+  ]
+    where
+      kept : List (List Cited)
+      kept = map (λ entry. cites entry.1) (filter (checks e rule) (entries e rule))
+
+      go : (b : Bool) → IsTrue b ↔ (own ≡ []) → own ≡ kept → not b ≡ list_any (checks e rule) (entries e rule)
+      go true both same = sym (none_kept (checks e rule) (λ entry. cites entry.1) (entries e rule) (sym same ∙ both.0 refl))
+      go false both same = sym (some_kept (checks e rule) (λ entry. cites entry.1) (entries e rule) (λ none. false≢true (both.1 (same ∙ none))))
 
 -- the law
 pub statuses_are_exact : StatusesAreExact

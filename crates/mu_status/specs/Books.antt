@@ -4,8 +4,8 @@ use Rattle.std.specs.Option.{option_map_or}
 use Rattle.std.specs.FinMap as finite
 use Rattle.mu_tree.specs.Maps.{MapOf}
 use Rattle.mu_graph.specs.Derivations.{Stands}
-use Rattle.mu_check.specs.declared.citing.Cited.{Cited}
-use Rattle.mu_check.specs.declared.citing.Cited.TheVariants.{Rule, Morphism}
+use Rattle.mu_proof.specs.declared.citations.Cited.{Cited}
+use Rattle.mu_proof.specs.declared.citations.Cited.TheVariants.{Rule, Morphism}
 use Rattle.mu_flat.specs.Entries.{Entries}
 use Rattle.mu_status.specs.Statuses.{ways}
 

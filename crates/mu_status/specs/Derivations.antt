@@ -5,12 +5,12 @@ use Rattle.std.specs.FinMap as finite
 use Rattle.mu_graph.specs.Derivations.{AllStand, StandsInSome}
 use Rattle.mu_decl.specs.Claims.{well_formed}
 use Rattle.mu_decl.specs.declared.declaration.Statement.{Statement}
-use Rattle.mu_proof.specs.declared.item.Item.{Item}
-use Rattle.mu_check.specs.Citations.{cites}
+use Rattle.mu_proof.specs.declared.items.Item.{Item}
+use Rattle.mu_proof.specs.Citations.{cites}
 use Rattle.mu_check.specs.Verdicts.{verdict}
-use Rattle.mu_check.specs.declared.citing.Cited.{Cited}
-use Rattle.mu_check.specs.declared.citing.Cited.TheVariants.{Rule, Morphism}
-use Rattle.mu_flat.specs.Citations.{proof_at}
+use Rattle.mu_proof.specs.declared.citations.Cited.{Cited}
+use Rattle.mu_proof.specs.declared.citations.Cited.TheVariants.{Rule, Morphism}
+use Rattle.mu_flat.specs.ProofTables.{proof_at}
 use Rattle.mu_flat.specs.Entries.{Entries, world_of}
 
 -- a rule is well formed where its claim is so in its unit
@@ -32,13 +32,13 @@ RuleMayFollow e rule s before =
     × ((s.is_axiom ≡ true) ⊎ ((s.is_axiom ≡ false) × ((items : List Item) × HasCheckedProof e rule items × AllStand (cites items) before)))
 
 -- the member may follow these in a derivation; no morphism does, as none is stored
-abbrev pub MayFollow : Entries → Cited → List Cited → Type 0
-MayFollow e (Rule rule) before = (s : Statement) × (finite.get e.rules rule ≡ Some s) × RuleMayFollow e rule s before
-MayFollow e (Morphism morphism) before = ⊥
+abbrev pub MemberMayFollow : Entries → Cited → List Cited → Type 0
+MemberMayFollow e (Rule rule) before = (s : Statement) × (finite.get e.rules rule ≡ Some s) × RuleMayFollow e rule s before
+MemberMayFollow e (Morphism morphism) before = ⊥
 
 -- the rule stands in some derivation
 abbrev pub IsEstablished : Entries → List ℕ → Type 0
-IsEstablished e rule = StandsInSome (MayFollow e) (Rule rule)
+IsEstablished e rule = StandsInSome (MemberMayFollow e) (Rule rule)
 
 -- P holds of all that can be derived in steps from axioms: of each well-formed axiom, and of each well-formed rule with a checked proof where it holds of all that the proof cites
 pub record HoldsByRules (e : Entries) (P : Cited → Type 0) : Type 0 where

@@ -5,12 +5,12 @@ use Rattle.std.specs.List.{filter, list_any}
 use Rattle.std.specs.FinMap as finite
 use Rattle.mu_graph.specs.Decisions.{is_derivable}
 use Rattle.mu_decl.specs.declared.declaration.Statement.{Statement}
-use Rattle.mu_proof.specs.declared.item.Item.{Item}
-use Rattle.mu_check.specs.Citations.{cites}
+use Rattle.mu_proof.specs.declared.items.Item.{Item}
+use Rattle.mu_proof.specs.Citations.{cites}
 use Rattle.mu_check.specs.Verdicts.{verdict}
-use Rattle.mu_check.specs.declared.citing.Cited.{Cited}
-use Rattle.mu_check.specs.declared.citing.Cited.TheVariants.{Rule, Morphism}
-use Rattle.mu_flat.specs.Citations.{proofs_of}
+use Rattle.mu_proof.specs.declared.citations.Cited.{Cited}
+use Rattle.mu_proof.specs.declared.citations.Cited.TheVariants.{Rule, Morphism}
+use Rattle.mu_flat.specs.ProofTables.{proofs_of}
 use Rattle.mu_flat.specs.Entries.{Entries, world_of}
 use Rattle.mu_status.specs.Derivations.{is_well_formed, HasProof, HasCheckedProof, IsEstablished, HoldsByRules}
 use Rattle.mu_status.specs.declared.statuses.RuleStatus.{RuleStatus}
@@ -36,10 +36,13 @@ HasStatus e rule s Unproved = (is_well_formed e s ≡ true) × (IsEstablished e 
 abbrev pub checks : Entries → List ℕ → List ℕ × List Item → Bool
 checks e rule entry = is_none (verdict (world_of e) rule entry.1)
 
--- the ways to a rule with this statement: none where it is not well formed, one without premises for an axiom, and what each proof that checks cites for another rule
+-- the ways to a well-formed rule with this statement: one without premises for an axiom, and what each proof that checks cites for another rule
+abbrev pub formed_ways : Entries → List ℕ → Statement → List (List Cited)
+formed_ways e rule s = if s.is_axiom then ([] ∷ []) else map (λ entry. cites entry.1) (filter (checks e rule) (finite.entries (proofs_of e.proofs rule)))
+
+-- the ways to a rule with this statement: none where it is not well formed
 abbrev pub rule_ways : Entries → List ℕ → Statement → List (List Cited)
-rule_ways e rule s =
-    if is_well_formed e s then (if s.is_axiom then ([] ∷ []) else map (λ entry. cites entry.1) (filter (checks e rule) (finite.entries (proofs_of e.proofs rule)))) else []
+rule_ways e rule s = if is_well_formed e s then formed_ways e rule s else []
 
 -- the ways to a member of a derivation
 abbrev pub ways : Entries → Cited → List (List Cited)
@@ -50,10 +53,14 @@ ways e (Morphism morphism) = []
 abbrev pub is_established : Entries → List ℕ → Bool
 is_established e rule = is_derivable (ways e) (map Rule (finite.keys e.rules)) (Rule rule)
 
+-- the status of a rule none of whose proofs checks
+abbrev pub status_unchecked : List (List ℕ × List Item) → RuleStatus
+status_unchecked [] = Unproved
+status_unchecked (entry ∷ entries) = Incomplete
+
 -- the status of a rule without a derivation, by its proofs
 abbrev pub status_by_proofs : Entries → List ℕ → List (List ℕ × List Item) → RuleStatus
-status_by_proofs e rule [] = Unproved
-status_by_proofs e rule (entry ∷ entries) = if list_any (checks e rule) (entry ∷ entries) then Complete else Incomplete
+status_by_proofs e rule entries = if list_any (checks e rule) entries then Complete else status_unchecked entries
 
 -- the status of a rule with this statement
 abbrev pub status_of : Entries → List ℕ → Statement → RuleStatus

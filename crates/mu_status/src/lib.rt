@@ -1,9 +1,7 @@
 //! Derivations in a store, and the status of a rule.
 #![tactic(auto)]
 
-mod established;
+mod books;
 mod statuses;
-#[cfg(test)]
-mod tests;
 
 pub use statuses::{RuleStatus, status};

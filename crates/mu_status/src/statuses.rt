@@ -1,11 +1,10 @@
-ghost use Rattle.std.specs.Prelude.{◌≡◌, map, IfOk};
+ghost use Rattle.std.specs.Prelude.{◌≡◌, Some, IfOk};
 ghost use Rattle.std.specs.FinMap as finite;
 ghost use Rattle.std.specs.List.{list_any};
-ghost use Rattle.std.specs.Map.Iter.{deref_pair};
-ghost use Rattle.mu_status.specs.Statuses.{status_of, status_at, status_by_proofs, word_of, checks, StatusesAreExact};
+ghost use Rattle.mu_flat.specs.ProofTables.{proofs_of};
+ghost use Rattle.mu_status.specs.Statuses.{status_of, status_unchecked, status_at, status_by_proofs, word_of, checks, StatusesAreExact};
 
-use crate::established::is_established;
-use mu_check::check_proof;
+use crate::books::{formed_ways, is_established};
 use mu_decl::{Context, Statement, well_formed};
 use mu_flat::Store;
 use mu_proof::Proof;
@@ -59,59 +58,53 @@ pub fn status(alloc: Global, store: &Store, rule: &Name) -> Result<Option<RuleSt
     }
 }
 
-/// The status of a rule with this statement.
+/// The status of the rule, whose statement this is.
 fn status_of(
     alloc: Global,
     store: &Store,
     rule: &Name,
     statement: &Statement,
 ) -> Result<RuleStatus, NoMemory>
+    requires { finite.get store.now.rules rule.now ≡ Some statement.now }
     ensures { IfOk result (λ status. status ≡ status_of store.now rule.now statement.now) }
 {
     if !well_formed(alloc, store, &statement.theory, &statement.claim)? {
         return Ok(RuleStatus::IllFormed);
     }
-    if is_established(alloc, store, rule)? {
+    let own = formed_ways(alloc, store, rule, statement)?;
+    let is_complete = !own.is_empty();
+    if is_established(alloc, store, rule, own)? {
         return Ok(RuleStatus::Established);
     }
-    match store.proofs().of_rule(rule) {
-        Some(proofs) => status_by_proofs(alloc, store, rule, proofs),
-        None => Ok(RuleStatus::Unproved),
-    }
+    let status = status_by_proofs(alloc, store, rule, is_complete)?;
+    Ok(status)
 }
 
-/// The status of a rule without a derivation, by its proofs.
+/// The status of a rule without a derivation, where it is known whether a proof of it checks.
 fn status_by_proofs(
     alloc: Global,
     store: &Store,
     rule: &Name,
-    proofs: &Table<Proof>,
+    is_complete: bool,
 ) -> Result<RuleStatus, NoMemory>
-    ensures { IfOk result (λ status. status ≡ status_by_proofs store.now rule.now (finite.entries proofs.now)) }
+    ensures { IfOk result (λ status. let entries = finite.entries (proofs_of store.now.proofs rule.now) in
+        is_complete ≡ list_any (checks store.now rule.now) entries → status ≡ status_by_proofs store.now rule.now entries) }
 {
-    let entries = proofs.entries(alloc)?;
-    if entries.is_empty() {
-        return Ok(RuleStatus::Unproved);
-    }
-    if some_checks(alloc, store, rule, entries.as_slice())? {
+    if is_complete {
         return Ok(RuleStatus::Complete);
     }
-    Ok(RuleStatus::Incomplete)
+    match store.proofs().of_rule(rule) {
+        Some(proofs) => status_unchecked(alloc, proofs),
+        None => Ok(RuleStatus::Unproved),
+    }
 }
 
-/// Whether one of these proofs of a rule checks.
-fn some_checks(
-    alloc: Global,
-    store: &Store,
-    rule: &Name,
-    entries: &[(&Name, &Proof)],
-) -> Result<bool, NoMemory>
-    ensures { IfOk result (λ yes. yes ≡ list_any (checks store.now rule.now) (map deref_pair entries.now)) }
+/// The status of a rule none of whose proofs checks.
+fn status_unchecked(alloc: Global, proofs: &Table<Proof>) -> Result<RuleStatus, NoMemory>
+    ensures { IfOk result (λ status. status ≡ status_unchecked (finite.entries proofs.now)) }
 {
-    for entry in entries {
-        if check_proof(alloc, store, rule, entry.1)?.is_none() {
-            return Ok(true);
-        }
+    if proofs.entries(alloc)?.is_empty() {
+        return Ok(RuleStatus::Unproved);
     }
-    Ok(false)
+    Ok(RuleStatus::Incomplete)
 }

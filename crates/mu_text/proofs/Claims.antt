@@ -2,7 +2,7 @@
 use Rattle.std.proofs.Common.{◌≡◌, true, List, [], ◌∷◌, ◌++◌, inl, inr, refl, ap, sym, ◌∙◌, subst, append_assoc, append-nil}
 use Rattle.mu_text.specs.declared.symbol.Mark.{Mark}
 use Rattle.mu_text.specs.declared.symbol.Mark.TheVariants.{Semicolon, Turnstile}
-use Rattle.mu_text.specs.Items.{Item, mark}
+use Rattle.mu_text.specs.Lexemes.{Lexeme, mark}
 use Rattle.mu_text.specs.Parts.{Nothing, given_back, Then, chain, Made, mapped, Or, More, read_more}
 use Rattle.mu_text.specs.SimpleParts.{GivenMark, read_mark}
 use Rattle.mu_text.specs.Writings.{Writing}
@@ -16,23 +16,23 @@ use Rattle.mu_text.proofs.Simple.{Any, Exact-mark}
 use Rattle.mu_text.proofs.Trees.{NoSemicolon, Exact-tree}
 
 -- no claim goes on
-abbrev pub NoClaim : List Item → Type 0
+abbrev pub NoClaim : List Lexeme → Type 0
 NoClaim rest = Follows rest × Fails goes_on rest
 
-to_hypothesis : (ts : List Item) (h : Hypothesis) → Made plain OneTree ts h → IsHypothesis ts h
+to_hypothesis : (ts : List Lexeme) (h : Hypothesis) → Made plain OneTree ts h → IsHypothesis ts h
 to_hypothesis ts h g = subst (λ (k : Hypothesis). IsHypothesis ts k) (sym g.2) g.1
 
-from_hypothesis : (ts : List Item) (h : Hypothesis) → IsHypothesis ts h → Made plain OneTree ts h
+from_hypothesis : (ts : List Lexeme) (h : Hypothesis) → IsHypothesis ts h → Made plain OneTree ts h
 from_hypothesis ts (plain w) g = (w, g, refl)
 
 pub Exact-hypothesis : Exact read_hypothesis IsHypothesis Follows
 unfolding read_hypothesis
 Exact-hypothesis = Exact-same read_hypothesis (Made plain OneTree) IsHypothesis Follows to_hypothesis from_hypothesis (Exact-mapped plain read_tree OneTree Follows Exact-tree)
 
-abbrev Ending : List Hypothesis → List Item → Sentence → Type 0
+abbrev Ending : List Hypothesis → List Lexeme → Sentence → Type 0
 Ending hs = Then (GivenMark Turnstile) (λ _. Made (concluding hs) OneTree)
 
-abbrev Concluded : Hypothesis → List Item → Sentence → Type 0
+abbrev Concluded : Hypothesis → List Lexeme → Sentence → Type 0
 Concluded h = Then (Made (λ hs. h ∷ hs) (More Semicolon IsHypothesis)) Ending
 
 exact_ending : (hs : List Hypothesis) → Exact (chain (read_mark Turnstile) (λ _. mapped (concluding hs) read_tree)) (Ending hs) Follows
@@ -40,11 +40,11 @@ exact_ending hs =
     Exact-chain (read_mark Turnstile) (λ _. mapped (concluding hs) read_tree) (GivenMark Turnstile) (λ _. Made (concluding hs) OneTree) Any Follows (Exact-mark Turnstile)
     (λ u. Exact-mapped (concluding hs) read_tree OneTree Follows Exact-tree) (λ u b y rest g s. tt)
 
-ending_is : (hs : List Hypothesis) (ts : List Item) (y : Sentence) → Ending hs ts y → (b : List Item) × (w : Writing) × (ts ≡ mark Turnstile ∷ b) × OneTree b w × (y ≡ concluding hs w)
+ending_is : (hs : List Hypothesis) (ts : List Lexeme) (y : Sentence) → Ending hs ts y → (b : List Lexeme) × (w : Writing) × (ts ≡ mark Turnstile ∷ b) × OneTree b w × (y ≡ concluding hs w)
 ending_is hs ts y g = (g.2, g.5.0, g.3 ∙ ap (λ l. l ++ g.2) g.4, g.5.1, g.5.2)
 
-link_ending : (hs : List Hypothesis) (ts : List Item) (y : Sentence) (rest : List Item) → Ending hs ts y → Follows rest → NoSemicolon (ts ++ rest)
-link_ending hs ts y rest g s = let e = ending_is hs ts y g in subst (λ (l : List Item). NoSemicolon (l ++ rest)) (sym e.2) (free_mark Turnstile refl, refl)
+link_ending : (hs : List Hypothesis) (ts : List Lexeme) (y : Sentence) (rest : List Lexeme) → Ending hs ts y → Follows rest → NoSemicolon (ts ++ rest)
+link_ending hs ts y rest g s = let e = ending_is hs ts y g in subst (λ (l : List Lexeme). NoSemicolon (l ++ rest)) (sym e.2) (free_mark Turnstile refl, refl)
 
 exact_concluded : (h : Hypothesis) → Exact (read_concluded h) (Concluded h) Follows
 exact_concluded h =
@@ -54,28 +54,28 @@ exact_concluded h =
     exact_ending link_ending
 
 -- what follows the first hypothesis begins with a mark
-pub record Marked (ts : List Item) : Type 0 where
+pub record Marked (ts : List Lexeme) : Type 0 where
   pub sign : Mark
-  pub rest : List Item
+  pub rest : List Lexeme
   pub is : ts ≡ mark sign ∷ rest
   pub free : is_no_opener sign ≡ true
   pub further : goes_on (mark sign) ≡ true
 
-marked_hypotheses : (ts a b : List Item) (hs : List Hypothesis) → ts ≡ a ++ b → More Semicolon IsHypothesis a hs → (c : List Item) → b ≡ mark Turnstile ∷ c → Marked ts
+marked_hypotheses : (ts a b : List Lexeme) (hs : List Hypothesis) → ts ≡ a ++ b → More Semicolon IsHypothesis a hs → (c : List Lexeme) → b ≡ mark Turnstile ∷ c → Marked ts
 marked_hypotheses ts a b [] e g c i = record { sign = Turnstile; rest = c; is = e ∙ (ap (λ l. l ++ b) g ∙ i); free = refl; further = refl }
 marked_hypotheses ts a b (h ∷ hs) e g c i = record { sign = Semicolon; rest = (g.0 ++ g.1) ++ b; is = e ∙ ap (λ l. l ++ b) g.2; free = refl; further = refl }
 
-marked : (h : Hypothesis) (ts : List Item) (y : Sentence) → Concluded h ts y → Marked ts
+marked : (h : Hypothesis) (ts : List Lexeme) (y : Sentence) → Concluded h ts y → Marked ts
 marked h ts y g = let e = ending_is g.0 g.2 y g.5 in marked_hypotheses ts g.1 g.2 g.4.0 g.3 g.4.1 e.0 e.2
 
-concluded_passes : (h : Hypothesis) (ts : List Item) (y : Sentence) → Concluded h ts y → Passes goes_on ts
+concluded_passes : (h : Hypothesis) (ts : List Lexeme) (y : Sentence) → Concluded h ts y → Passes goes_on ts
 concluded_passes h ts y g = let m : Marked ts = marked h ts y g in subst (Passes goes_on) (sym m.is) m.further
 
-abbrev After : Hypothesis → List Item → Sentence → Type 0
+abbrev After : Hypothesis → List Lexeme → Sentence → Type 0
 After (plain w) = Or (Concluded (plain w)) (Nothing (concluding [] w))
 
-alone_fails : (y : Sentence) (ts : List Item) (x : Sentence) (rest : List Item) → Nothing y ts x → NoClaim rest → Fails goes_on (ts ++ rest)
-alone_fails y ts x rest g s = subst (λ (l : List Item). Fails goes_on (l ++ rest)) (sym g.0) s.1
+alone_fails : (y : Sentence) (ts : List Lexeme) (x : Sentence) (rest : List Lexeme) → Nothing y ts x → NoClaim rest → Fails goes_on (ts ++ rest)
+alone_fails y ts x rest g s = subst (λ (l : List Lexeme). Fails goes_on (l ++ rest)) (sym g.0) s.1
 
 exact_after : (h : Hypothesis) → Exact (read_after h) (After h) NoClaim
 exact_after (plain w) =
@@ -83,22 +83,22 @@ exact_after (plain w) =
     (Exact-before (read_concluded (plain w)) (Concluded (plain w)) Follows NoClaim (λ rest s. s.0) (exact_concluded (plain w)))
     (Exact-pure (concluding [] w) NoClaim) (concluded_passes (plain w)) (alone_fails (concluding [] w))
 
-link_after : (h : Hypothesis) (ts : List Item) (y : Sentence) (rest : List Item) → After h ts y → NoClaim rest → Follows (ts ++ rest)
-link_after (plain w) ts y rest (inl g) s = let m : Marked ts = marked (plain w) ts y g in subst (λ (l : List Item). Follows (l ++ rest)) (sym m.is) (free_mark m.sign m.free)
-link_after (plain w) ts y rest (inr g) s = subst (λ (l : List Item). Follows (l ++ rest)) (sym g.0) s.0
+link_after : (h : Hypothesis) (ts : List Lexeme) (y : Sentence) (rest : List Lexeme) → After h ts y → NoClaim rest → Follows (ts ++ rest)
+link_after (plain w) ts y rest (inl g) s = let m : Marked ts = marked (plain w) ts y g in subst (λ (l : List Lexeme). Follows (l ++ rest)) (sym m.is) (free_mark m.sign m.free)
+link_after (plain w) ts y rest (inr g) s = subst (λ (l : List Lexeme). Follows (l ++ rest)) (sym g.0) s.0
 
-to_claim : (h : Hypothesis) (ts a b : List Item) (y : Sentence) → ts ≡ a ++ b → IsHypothesis a h → After h b y → IsClaim ts y
+to_claim : (h : Hypothesis) (ts a b : List Lexeme) (y : Sentence) → ts ≡ a ++ b → IsHypothesis a h → After h b y → IsClaim ts y
 to_claim (plain w) ts a b y e g (inl k) =
     let i = ending_is k.0 k.2 y k.5 in
     subst (λ (x : Sentence). IsClaim ts x) (sym (i.4 ∙ ap (λ hs. concluding hs i.1) k.4.2))
     (a ++ k.1, i.0, e ∙ (ap (λ l. a ++ l) (k.3 ∙ ap (λ l. k.1 ++ l) i.2) ∙ sym (append_assoc a k.1 (mark Turnstile ∷ i.0))), (a, k.1, refl, g, k.4.1), i.3)
 to_claim (plain w) ts a b y e g (inr k) =
-    subst (λ (x : Sentence). IsClaim ts x) (sym k.1) (subst (λ (l : List Item). OneTree l w) (sym (e ∙ (ap (λ l. a ++ l) k.0 ∙ append-nil a))) g)
+    subst (λ (x : Sentence). IsClaim ts x) (sym k.1) (subst (λ (l : List Lexeme). OneTree l w) (sym (e ∙ (ap (λ l. a ++ l) k.0 ∙ append-nil a))) g)
 
-concluded_after : (h : Hypothesis) (ts : List Item) (y : Sentence) → Concluded h ts y → After h ts y
+concluded_after : (h : Hypothesis) (ts : List Lexeme) (y : Sentence) → Concluded h ts y → After h ts y
 concluded_after (plain w) ts y g = inl g
 
-from_claim : (ts : List Item) (hs : List Hypothesis) (c : Writing) → IsClaim ts (concluding hs c) → Then IsHypothesis After ts (concluding hs c)
+from_claim : (ts : List Lexeme) (hs : List Hypothesis) (c : Writing) → IsClaim ts (concluding hs c) → Then IsHypothesis After ts (concluding hs c)
 from_claim ts [] c g = (plain c, ts, [], sym (append-nil ts), g, inr (refl, refl))
 from_claim ts (h ∷ hs) c g =
     let s = g.3 in

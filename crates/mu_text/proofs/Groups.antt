@@ -3,7 +3,7 @@ use Rattle.std.proofs.Common.{◌≡◌, Bool, List, [], ◌∷◌, ◌++◌, Op
 use Rattle.mu_tree.specs.declared.claim.Kind.{Kind}
 use Rattle.mu_text.specs.declared.symbol.Mark.{Mark}
 use Rattle.mu_text.specs.declared.symbol.Mark.TheVariants.{Open, Close}
-use Rattle.mu_text.specs.Items.{Item, mark}
+use Rattle.mu_text.specs.Lexemes.{Lexeme, mark}
 use Rattle.mu_text.specs.Marks.{is_mark}
 use Rattle.mu_text.specs.Parts.{Out, Nothing, given_back, Then, chain, Or}
 use Rattle.mu_text.specs.SimpleParts.{GivenMark, SomeKinds, read_mark, read_kinds}
@@ -13,35 +13,35 @@ use Rattle.mu_text.proofs.Choice.{Passes, Fails, Exact-either}
 use Rattle.mu_text.proofs.Exact.{Exact, Exact-same, Exact-chain, Exact-pure, Exact-before}
 use Rattle.mu_text.proofs.Simple.{Any, NoComma, Exact-mark, Exact-kinds}
 
-pub both_empty : (a b : List Item) → a ≡ [] → b ≡ [] → a ++ b ≡ []
+pub both_empty : (a b : List Lexeme) → a ≡ [] → b ≡ [] → a ++ b ≡ []
 both_empty a b e i = rw (e, i) refl
 
-module _ {A : Type 0} (left right : Mark) (p : List Item → Out A) (G : List Item → A → Type 0) (S : List Item → Type 0) (P : Exact p G S) (right_stops : (rest : List Item) → S (mark right ∷ rest)) where
-  abbrev Behind : A → List Item → A → Type 0
+module _ {A : Type 0} (left right : Mark) (p : List Lexeme → Out A) (G : List Lexeme → A → Type 0) (S : List Lexeme → Type 0) (P : Exact p G S) (right_stops : (rest : List Lexeme) → S (mark right ∷ rest)) where
+  abbrev Behind : A → List Lexeme → A → Type 0
   Behind x = Then (GivenMark right) (λ _. Nothing x)
 
-  abbrev Inside : List Item → A → Type 0
+  abbrev Inside : List Lexeme → A → Type 0
   Inside = Then G Behind
 
   exact_behind : (x : A) → Exact (chain (read_mark right) (λ _. given_back x)) (Behind x) Any
   exact_behind x = Exact-chain (read_mark right) (λ _. given_back x) (GivenMark right) (λ _. Nothing x) Any Any (Exact-mark right) (λ _. Exact-pure x Any) (λ u b y rest h s. tt)
 
-  behind_is : (x : A) (ts : List Item) (y : A) → Behind x ts y → (ts ≡ mark right ∷ []) × (y ≡ x)
+  behind_is : (x : A) (ts : List Lexeme) (y : A) → Behind x ts y → (ts ≡ mark right ∷ []) × (y ≡ x)
   behind_is x ts y g = (g.3 ∙ (ap (λ l. g.1 ++ l) g.5.0 ∙ (append-nil g.1 ∙ g.4)), g.5.1)
 
-  link_inside : (x : A) (b : List Item) (y : A) (rest : List Item) → Behind x b y → Any rest → S (b ++ rest)
-  link_inside x b y rest g s = subst (λ (l : List Item). S (l ++ rest)) (sym (behind_is x b y g).0) (right_stops rest)
+  link_inside : (x : A) (b : List Lexeme) (y : A) (rest : List Lexeme) → Behind x b y → Any rest → S (b ++ rest)
+  link_inside x b y rest g s = subst (λ (l : List Lexeme). S (l ++ rest)) (sym (behind_is x b y g).0) (right_stops rest)
 
   exact_inside : Exact (chain p (λ x. chain (read_mark right) (λ _. given_back x))) Inside Any
   exact_inside = Exact-chain p (λ x. chain (read_mark right) (λ _. given_back x)) G Behind S Any P exact_behind link_inside
 
-  to_enclosed : (ts : List Item) (y : A) → Then (GivenMark left) (λ _. Inside) ts y → Enclosed left right G ts y
+  to_enclosed : (ts : List Lexeme) (y : A) → Then (GivenMark left) (λ _. Inside) ts y → Enclosed left right G ts y
   to_enclosed ts y g =
       let inner = g.5 in
       let ends = behind_is inner.0 inner.2 y inner.5 in
       (inner.1, g.3 ∙ (ap (λ l. l ++ g.2) g.4 ∙ ap (λ l. mark left ∷ l) (inner.3 ∙ ap (λ l. inner.1 ++ l) ends.0)), subst (λ (x : A). G inner.1 x) (sym ends.1) inner.4)
 
-  from_enclosed : (ts : List Item) (y : A) → Enclosed left right G ts y → Then (GivenMark left) (λ _. Inside) ts y
+  from_enclosed : (ts : List Lexeme) (y : A) → Enclosed left right G ts y → Then (GivenMark left) (λ _. Inside) ts y
   from_enclosed ts y g = (tt, mark left ∷ [], g.0 ++ (mark right ∷ []), g.1, refl, (y, g.0, mark right ∷ [], refl, g.2, (tt, mark right ∷ [], [], refl, refl, (refl, refl))))
 
   -- between two marks
@@ -50,62 +50,62 @@ module _ {A : Type 0} (left right : Mark) (p : List Item → Out A) (G : List It
       Exact-same (enclosed left right p) (Then (GivenMark left) (λ _. Inside)) (Enclosed left right G) Any to_enclosed from_enclosed
       (Exact-chain (read_mark left) (λ _. chain p (λ x. chain (read_mark right) (λ _. given_back x))) (GivenMark left) (λ _. Inside) Any Any (Exact-mark left) (λ _. exact_inside) (λ u b y rest h s. tt))
 
-  pub enclosed_passes : (ts : List Item) (x : A) → Enclosed left right G ts x → Passes (is_mark left) ts
+  pub enclosed_passes : (ts : List Lexeme) (x : A) → Enclosed left right G ts x → Passes (is_mark left) ts
   enclosed_passes ts x g = subst (Passes (is_mark left)) (sym g.1) (own_mark left)
 
-module _ {A : Type 0} (test : Item → Bool) (p : List Item → Out A) (G : List Item → A → Type 0) (S : List Item → Type 0) (P : Exact p G S)
-    (passes : (ts : List Item) (x : A) → G ts x → Passes test ts) where
+module _ {A : Type 0} (test : Lexeme → Bool) (p : List Lexeme → Out A) (G : List Lexeme → A → Type 0) (S : List Lexeme → Type 0) (P : Exact p G S)
+    (passes : (ts : List Lexeme) (x : A) → G ts x → Passes test ts) where
   -- what may follow a part that may be left out
-  abbrev pub NotBegun : List Item → Type 0
+  abbrev pub NotBegun : List Lexeme → Type 0
   NotBegun rest = S rest × Fails test rest
 
-  abbrev Given : List Item → Option A → Type 0
-  Given = Then G (λ x. Nothing (Some x))
+  abbrev Present : List Lexeme → Option A → Type 0
+  Present = Then G (λ x. Nothing (Some x))
 
-  given_is : (ts : List Item) (o : Option A) → Given ts o → (x : A) × G ts x × (o ≡ Some x)
-  given_is ts o g = (g.0, subst (λ (l : List Item). G l g.0) (sym (g.3 ∙ (ap (λ l. g.1 ++ l) g.5.0 ∙ append-nil g.1))) g.4, g.5.1)
+  given_is : (ts : List Lexeme) (o : Option A) → Present ts o → (x : A) × G ts x × (o ≡ Some x)
+  given_is ts o g = (g.0, subst (λ (l : List Lexeme). G l g.0) (sym (g.3 ∙ (ap (λ l. g.1 ++ l) g.5.0 ∙ append-nil g.1))) g.4, g.5.1)
 
-  to_optional : (ts : List Item) (o : Option A) → Or Given (Nothing None) ts o → Optional G ts o
+  to_optional : (ts : List Lexeme) (o : Option A) → Or Present (Nothing None) ts o → Optional G ts o
   to_optional ts o (inl g) = let h : (x : A) × G ts x × (o ≡ Some x) = given_is ts o g in subst (λ (u : Option A). Optional G ts u) (sym h.2) h.1
   to_optional ts o (inr g) = subst (λ (u : Option A). Optional G ts u) (sym g.1) g.0
 
-  from_optional : (ts : List Item) (o : Option A) → Optional G ts o → Or Given (Nothing None) ts o
+  from_optional : (ts : List Lexeme) (o : Option A) → Optional G ts o → Or Present (Nothing None) ts o
   from_optional ts (Some x) g = inl (x, ts, [], sym (append-nil ts), g, (refl, refl))
   from_optional ts None g = inr (g, refl)
 
-  given_passes : (ts : List Item) (o : Option A) → Given ts o → Passes test ts
+  given_passes : (ts : List Lexeme) (o : Option A) → Present ts o → Passes test ts
   given_passes ts o g = let h : (x : A) × G ts x × (o ≡ Some x) = given_is ts o g in passes ts h.0 h.1
 
-  none_fails : (ts : List Item) (o : Option A) (rest : List Item) → Nothing None ts o → NotBegun rest → Fails test (ts ++ rest)
-  none_fails ts o rest g s = subst (λ (l : List Item). Fails test (l ++ rest)) (sym g.0) s.1
+  none_fails : (ts : List Lexeme) (o : Option A) (rest : List Lexeme) → Nothing None ts o → NotBegun rest → Fails test (ts ++ rest)
+  none_fails ts o rest g s = subst (λ (l : List Lexeme). Fails test (l ++ rest)) (sym g.0) s.1
 
-  exact_given : Exact (chain p (λ x. given_back (Some x))) Given NotBegun
+  exact_given : Exact (chain p (λ x. given_back (Some x))) Present NotBegun
   exact_given =
       Exact-chain p (λ x. given_back (Some x)) G (λ x. Nothing (Some x)) S NotBegun P (λ x. Exact-pure (Some x) NotBegun)
-      (λ x b o rest g s. subst (λ (l : List Item). S (l ++ rest)) (sym g.0) s.0)
+      (λ x b o rest g s. subst (λ (l : List Lexeme). S (l ++ rest)) (sym g.0) s.0)
 
   -- a part that may be left out
   pub Exact-optional : Exact (optional test p) (Optional G) NotBegun
   Exact-optional =
-      Exact-same (optional test p) (Or Given (Nothing None)) (Optional G) NotBegun to_optional from_optional
-      (Exact-either test (chain p (λ x. given_back (Some x))) (given_back None) Given (Nothing None) NotBegun exact_given (Exact-pure None NotBegun) given_passes none_fails)
+      Exact-same (optional test p) (Or Present (Nothing None)) (Optional G) NotBegun to_optional from_optional
+      (Exact-either test (chain p (λ x. given_back (Some x))) (given_back None) Present (Nothing None) NotBegun exact_given (Exact-pure None NotBegun) given_passes none_fails)
 
 -- no list of arguments begins here
-abbrev pub NoOpen : List Item → Type 0
+abbrev pub NoOpen : List Lexeme → Type 0
 NoOpen rest = Fails (is_mark Open) rest
 
-abbrev Parenthesized : List Item → List Kind → Type 0
+abbrev Parenthesized : List Lexeme → List Kind → Type 0
 Parenthesized = Enclosed Open Close SomeKinds
 
 exact_parenthesized : Exact (enclosed Open Close read_kinds) Parenthesized Any
 exact_parenthesized = Exact-enclosed Open Close read_kinds SomeKinds NoComma Exact-kinds (λ rest. (tt, refl))
 
-to_arguments : (ts : List Item) (kinds : List Kind) → Or Parenthesized (Nothing []) ts kinds → ArgumentKinds ts kinds
+to_arguments : (ts : List Lexeme) (kinds : List Kind) → Or Parenthesized (Nothing []) ts kinds → ArgumentKinds ts kinds
 to_arguments ts [] (inl g) = absurd g.2
 to_arguments ts (kind ∷ kinds) (inl g) = g
 to_arguments ts kinds (inr g) = subst (λ (l : List Kind). ArgumentKinds ts l) (sym g.1) g.0
 
-from_arguments : (ts : List Item) (kinds : List Kind) → ArgumentKinds ts kinds → Or Parenthesized (Nothing []) ts kinds
+from_arguments : (ts : List Lexeme) (kinds : List Kind) → ArgumentKinds ts kinds → Or Parenthesized (Nothing []) ts kinds
 from_arguments ts [] g = inr (g, refl)
 from_arguments ts (kind ∷ kinds) g = inl g
 
@@ -117,4 +117,4 @@ Exact-argument_kinds =
     (Exact-before (enclosed Open Close read_kinds) Parenthesized Any NoOpen (λ rest h. tt) exact_parenthesized)
     (Exact-pure [] NoOpen)
     (enclosed_passes Open Close read_kinds SomeKinds NoComma Exact-kinds (λ rest. (tt, refl)))
-    (λ ts kinds rest g s. subst (λ (l : List Item). Fails (is_mark Open) (l ++ rest)) (sym g.0) s))
+    (λ ts kinds rest g s. subst (λ (l : List Lexeme). Fails (is_mark Open) (l ++ rest)) (sym g.0) s))

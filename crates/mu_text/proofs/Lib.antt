@@ -1,17 +1,19 @@
+mod Digits
+mod Fronts
+mod Longest
+mod Runs
+mod Skips
+pub mod Chains
 pub mod Choice
 pub mod Claims
 pub mod Complete
-mod Digits
 pub mod Exact
 pub mod Excesses
 pub mod Facts
-mod Fronts
-pub mod Given
 pub mod Groups
 pub mod Kept
 pub mod Limits
 pub mod Lists
-mod Longest
 pub mod Marks
 pub mod Measures
 pub mod Only
@@ -19,9 +21,7 @@ pub mod ReasonValues
 pub mod Reasons
 pub mod References
 pub mod Rows
-mod Runs
 pub mod Simple
-mod Skips
 pub mod Spacing
 pub mod Steps
 pub mod Trees

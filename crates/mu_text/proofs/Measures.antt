@@ -2,10 +2,10 @@
 use Rattle.std.proofs.Common.{◌≡◌, ℕ, ◌+◌, max, List, [], ◌∷◌, refl, ap, sym, ◌∙◌, arith, map, sum}
 use Rattle.std.specs.List.{fold}
 use Rattle.mu_tree.specs.Trees.{size, size_step, depth, depth_step, deepest}
-use Rattle.mu_tree.specs.declared.tree.Tree.{Tree}
-use Rattle.mu_tree.specs.declared.tree.Tree.TheVariants as tree
-use Rattle.mu_tree.specs.declared.tree.Tree.TheOpen.{App, Meta}
-use Rattle.mu_tree.specs.declared.tree.Tree.TheFolds.{fold-roll-Tree}
+use Rattle.mu_tree.specs.declared.trees.Tree.{Tree}
+use Rattle.mu_tree.specs.declared.trees.Tree.TheVariants as tree
+use Rattle.mu_tree.specs.declared.trees.Tree.TheOpen.{App, Meta}
+use Rattle.mu_tree.specs.declared.trees.Tree.TheFolds.{fold-roll-Tree}
 use Rattle.mu_text.specs.declared.symbol.Word.{Word}
 use Rattle.mu_text.specs.declared.symbol.Word.TheVariants as word
 use Rattle.mu_text.specs.Writings.{Writing, Writings, leaf, apply, one, more, made, tree_of, trees_of, nodes, nodes_of, deep, deep_of}

@@ -9,11 +9,10 @@ use Rattle.mu_text.specs.declared.excess.Measured.{Measured}
 use Rattle.mu_text.specs.Parts.{StandsEach}
 use Rattle.mu_text.specs.SimpleParts.{StandsName}
 use Rattle.mu_text.specs.References.{WithinReference, StandsReference}
-use Rattle.mu_text.specs.Reasons.{Abstraction, by_rule, StandsAbstractions, StandsReason}
+use Rattle.mu_text.specs.Reasons.{AbstractionWriting, by_rule, StandsAbstractions, StandsReason}
 
 same_reference : (r k : Ref) → StandsReference r k → WithinReference r → k ≡ r
 same_reference (ref.Item label) (ref.Item kept) s w = ap ref.Item (s w)
-same_reference (ref.Assumption label n) (ref.Assumption kept number) s w = ap (λ l. ref.Assumption l number) (s.0 w) ∙ ap (ref.Assumption label) s.1
 same_reference (ref.Hypothesis n) (ref.Hypothesis number) s w = ap ref.Hypothesis s
 same_reference _ _ s w = absurd s
 
@@ -25,7 +24,7 @@ same_references (r ∷ refs) [] s w = absurd s
 same_references (r ∷ refs) (k ∷ kept) s w = ap (λ x. x ∷ kept) (same_reference r k s.0 w.0) ∙ ap (λ l. r ∷ l) (same_references refs kept s.1 w.1)
 
 -- a rule with its references and abstractions
-pub reason_stands : (name : List ℕ) (refs : List Ref) (inst : List Abstraction) (rule : List ℕ) (kept : List Ref) (m : Measured (List Given)) → StandsName name rule → StandsEach StandsReference refs kept
+pub reason_stands : (name : List ℕ) (refs : List Ref) (inst : List AbstractionWriting) (rule : List ℕ) (kept : List Ref) (m : Measured (List Given)) → StandsName name rule → StandsEach StandsReference refs kept
     → StandsAbstractions inst m → StandsReason (by_rule name refs inst) (record { value = why.Rule rule None kept m.value; excess = m.excess })
 reason_stands name refs inst rule kept m s r a = record {
   excess_is = a.excess_is;

@@ -9,7 +9,7 @@ use Rattle.mu_tree.specs.declared.claim.Kind.TheVariants as kind
 use Rattle.mu_text.specs.declared.symbol.Word.TheVariants.{Plain, Meta, Place}
 use Rattle.mu_text.specs.declared.symbol.Mark.{Mark}
 use Rattle.mu_text.specs.declared.symbol.Mark.TheVariants.{Comma}
-use Rattle.mu_text.specs.Items.{Item, word, mark}
+use Rattle.mu_text.specs.Lexemes.{Lexeme, word, mark}
 use Rattle.mu_text.specs.Marks.{is_mark}
 use Rattle.mu_text.specs.Parts.{token, OneToken}
 use Rattle.mu_text.specs.SimpleParts.{plain_name_of, name_of, meta_of, place_of, where_true, has_bytes, is_word, word_of, mark_of, kind_of, PlainName, AnyName, MetaName, PlaceNumber, GivenWord, GivenMark, OneKind, SomeKinds, SomeNames, read_plain_name, read_name, read_meta, read_place, read_word, read_mark, read_kind, read_kinds, read_names}
@@ -19,7 +19,7 @@ use Rattle.mu_text.proofs.Exact.{Exact, Exact-token, Exact-same}
 use Rattle.mu_text.proofs.Lists.{Exact-separated}
 
 -- anything may follow
-abbrev pub Any : List Item → Type 0
+abbrev pub Any : List Lexeme → Type 0
 Any ts = Unit {0}
 
 pub Exact-plain_name : Exact read_plain_name PlainName Any
@@ -53,7 +53,7 @@ pub from_bytes : (text : List ℕ) (o : Option (List ℕ)) → has_bytes text o 
 from_bytes text None e = cc
 from_bytes text (Some name) e = ap (λ l. Some l) (equal_bytes name text e)
 
-pub is_own_word : (text : List ℕ) (T : Item) → name_of T ≡ Some text → is_word text T ≡ true
+pub is_own_word : (text : List ℕ) (T : Lexeme) → name_of T ≡ Some text → is_word text T ≡ true
 is_own_word text T e = ap (has_bytes text) e ∙ same_bytes text
 
 pub Exact-word : (text : List ℕ) → Exact (read_word text) (GivenWord text) Any
@@ -72,11 +72,11 @@ Exact-mark sign =
     (λ ts x g. (mark sign, g, ap (λ b. where_true b tt) (own_mark sign)))
     (Exact-token (mark_of sign) (mark sign) tt (ap (λ b. where_true b tt) (own_mark sign)) Any)
 
-to_kind : (ts : List Item) (k : Kind) → OneToken kind_of ts k → OneKind ts k
+to_kind : (ts : List Lexeme) (k : Kind) → OneToken kind_of ts k → OneKind ts k
 to_kind ts kind.E g = (g.0, g.1, from_bytes (codes "e") (name_of g.0) (passed (is_word (codes "e") g.0) kind.E kind.E g.2).0)
 to_kind ts kind.T g = let e : kind.T ≡ kind.E = (passed (is_word (codes "e") g.0) kind.E kind.T g.2).1 in cc
 
-from_kind : (ts : List Item) (k : Kind) → OneKind ts k → OneToken kind_of ts k
+from_kind : (ts : List Lexeme) (k : Kind) → OneKind ts k → OneToken kind_of ts k
 from_kind ts kind.E g = (g.0, g.1, ap (λ b. where_true b kind.E) (is_own_word (codes "e") g.0 g.2))
 from_kind ts kind.T g = absurd g
 
@@ -87,7 +87,7 @@ Exact-kind =
     (Exact-token kind_of (word Plain (codes "e")) kind.E (ap (λ b. where_true b kind.E) (same_bytes (codes "e"))) Any)
 
 -- no comma follows a list between commas
-abbrev pub NoComma : List Item → Type 0
+abbrev pub NoComma : List Lexeme → Type 0
 NoComma rest = Any rest × Fails (is_mark Comma) rest
 
 pub Exact-kinds : Exact read_kinds SomeKinds NoComma

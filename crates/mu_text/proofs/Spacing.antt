@@ -18,7 +18,7 @@ use Rattle.mu_text.specs.declared.token.TokenSort.{TokenSort}
 use Rattle.mu_text.specs.declared.token.TokenSort.TheVariants.{Name, Meta, Place, Symbol, Wrong}
 use Rattle.mu_text.specs.Reading.{is_blank, starts_visible, starts_positive, symbols, is_spelled, IsFront, IsLongestFront, IsStray, IsFirstToken, AreTokensFrom, text_of}
 use Rattle.mu_text.specs.Tokens.{tokens}
-use Rattle.mu_text.specs.Items.{Item, item, items_of, item_of, sort_in, word_in}
+use Rattle.mu_text.specs.Lexemes.{Lexeme, item, items_of, item_of, sort_in, word_in}
 use Rattle.mu_text.specs.Spacing.{spaced}
 use Rattle.mu_text.proofs.Facts.{visible_some}
 use Rattle.mu_text.proofs.Kept.{tokens_are}
@@ -144,35 +144,35 @@ first_cut sort n text after ends (inl longest) = inl (longest_cut n text after l
 first_cut sort n text after ends (inr stray) = inr (stray_cut n text after (first_within sort n text (inr stray)) ends sort stray)
 
 -- a token without its place: its sort and its bytes
-abbrev pub Lexeme : Type 0
-Lexeme = TokenSort × List ℕ
+abbrev pub BareToken : Type 0
+BareToken = TokenSort × List ℕ
 
-abbrev pub lexeme : List ℕ → Token → Lexeme
-lexeme line token = (token.sort, text_of line token)
+abbrev pub bare_token : List ℕ → Token → BareToken
+bare_token line token = (token.sort, text_of line token)
 
 -- the tokens of a line without their places
-abbrev pub lexemes : List ℕ → List Lexeme
-lexemes line = map (lexeme line) (tokens line)
+abbrev pub bare_tokens : List ℕ → List BareToken
+bare_tokens line = map (bare_token line) (tokens line)
 
 -- it is a token by itself, where a blank or nothing follows it
-abbrev IsSeparate : Lexeme → Type 0
+abbrev IsSeparate : BareToken → Type 0
 IsSeparate x = (after : List ℕ) → starts_visible after ≡ false → IsFirstToken x.0 (length x.1) (x.1 ++ after)
 
-token_separate : (line : List ℕ) (token : Token) → IsFirstToken token.sort (token.to - token.from) (drop token.from line) → IsSeparate (lexeme line token)
+token_separate : (line : List ℕ) (token : Token) → IsFirstToken token.sort (token.to - token.from) (drop token.from line) → IsSeparate (bare_token line token)
 token_separate line token first after ends =
     let n = token.to - token.from in
     let text = drop token.from line in
     subst (λ (k : ℕ). IsFirstToken token.sort k (take n text ++ after)) (sym (length-take-le n text (first_within token.sort n text first))) (first_cut token.sort n text after ends first)
 
-tokens_separate : (at : ℕ) (line : List ℕ) (ts : List Token) → AreTokensFrom at line ts → AllByRecursion IsSeparate (map (lexeme line) ts)
+tokens_separate : (at : ℕ) (line : List ℕ) (ts : List Token) → AreTokensFrom at line ts → AllByRecursion IsSeparate (map (bare_token line) ts)
 tokens_separate at line [] are = tt
 tokens_separate at line (token ∷ ts) (later, blanks, first, rest) = (token_separate line token first, tokens_separate token.to line ts rest)
 
 -- from this place on the line is read as these
-abbrev ReadsAs : ℕ → List ℕ → List Lexeme → Type 0
-ReadsAs at line xs = (ts : List Token) × AreTokensFrom at line ts × (map (lexeme line) ts ≡ xs)
+abbrev ReadsAs : ℕ → List ℕ → List BareToken → Type 0
+ReadsAs at line xs = (ts : List Token) × AreTokensFrom at line ts × (map (bare_token line) ts ≡ xs)
 
-token_reads : (line : List ℕ) (at from : ℕ) (x : Lexeme) (xs : List Lexeme) (after : List ℕ) → at ≤ from → list_all is_blank (take (from - at) (drop at line)) ≡ true
+token_reads : (line : List ℕ) (at from : ℕ) (x : BareToken) (xs : List BareToken) (after : List ℕ) → at ≤ from → list_all is_blank (take (from - at) (drop at line)) ≡ true
     → drop from line ≡ x.1 ++ after → starts_visible after ≡ false → IsSeparate x → (drop (from + length x.1) line ≡ after → ReadsAs (from + length x.1) line xs) → ReadsAs at line (x ∷ xs)
 token_reads line at from x xs after later blanks here ends separate behind =
     let to = from + length x.1 in
@@ -182,52 +182,52 @@ token_reads line at from x xs after later blanks here ends separate behind =
     let first : IsFirstToken x.0 (to - from) (drop from line) =
     subst (λ (l : List ℕ). IsFirstToken x.0 (to - from) l) (sym here) (subst (λ (n : ℕ). IsFirstToken x.0 n (x.1 ++ after)) (sym size) (separate after ends)) in
     let text : text_of line token ≡ x.1 = ap (λ n. take n (drop from line)) size ∙ (ap (take (length x.1)) here ∙ take-append_seam x.1 after) in
-    (token ∷ rest.0, (later, blanks, first, rest.1), ap (λ (l : List ℕ). (x.0, l) ∷ map (lexeme line) rest.0) text ∙ ap (λ (l : List Lexeme). x ∷ l) rest.2)
+    (token ∷ rest.0, (later, blanks, first, rest.1), ap (λ (l : List ℕ). (x.0, l) ∷ map (bare_token line) rest.0) text ∙ ap (λ (l : List BareToken). x ∷ l) rest.2)
 
 -- what is behind a token where these follow it, with a blank before each
-abbrev behind_token : List Lexeme → List ℕ
+abbrev behind_token : List BareToken → List ℕ
 behind_token [] = []
 behind_token (x ∷ xs) = 32 ∷ (x.1 ++ behind_token xs)
 
-behind_ends : (xs : List Lexeme) → starts_visible (behind_token xs) ≡ false
+behind_ends : (xs : List BareToken) → starts_visible (behind_token xs) ≡ false
 behind_ends [] = refl
 behind_ends (x ∷ xs) = refl
 
-reads_behind : (line : List ℕ) (at : ℕ) (xs : List Lexeme) → drop at line ≡ behind_token xs → AllByRecursion IsSeparate xs → ReadsAs at line xs
+reads_behind : (line : List ℕ) (at : ℕ) (xs : List BareToken) → drop at line ≡ behind_token xs → AllByRecursion IsSeparate xs → ReadsAs at line xs
 reads_behind line at [] here separate = ([], ap (list_all is_blank) here, refl)
 reads_behind line at (x ∷ xs) here separate =
     let one : at + 1 - at ≡ 1 = omega arith in
     token_reads line at (at + 1) x xs (behind_token xs) (omega arith) (ap (λ n. list_all is_blank (take n (drop at line))) one ∙ ap (λ l. list_all is_blank (take 1 l)) here)
     (sym (drop-drop 1 at line) ∙ ap (drop 1) here) (behind_ends xs) separate.0 (λ next. reads_behind line (at + 1 + length x.1) xs next separate.1)
 
-abbrev joined : List Lexeme → List ℕ
+abbrev joined : List BareToken → List ℕ
 joined xs = join_with_byte 32 (map (λ x. x.1) xs)
 
-joined-first : (x : Lexeme) (xs : List Lexeme) → joined (x ∷ xs) ≡ x.1 ++ behind_token xs
+joined-first : (x : BareToken) (xs : List BareToken) → joined (x ∷ xs) ≡ x.1 ++ behind_token xs
 joined-first x [] = sym (append-nil x.1)
 joined-first x (y ∷ ys) = ap (λ l. x.1 ++ 32 ∷ l) (joined-first y ys)
 
-reads_joined : (xs : List Lexeme) → AllByRecursion IsSeparate xs → ReadsAs 0 (joined xs) xs
+reads_joined : (xs : List BareToken) → AllByRecursion IsSeparate xs → ReadsAs 0 (joined xs) xs
 reads_joined [] separate = ([], refl, refl)
 reads_joined (x ∷ xs) separate =
     token_reads (joined (x ∷ xs)) 0 0 x xs (behind_token xs) (omega arith) refl (joined-first x xs) (behind_ends xs) separate.0
     (λ next. reads_behind (joined (x ∷ xs)) (0 + length x.1) xs next separate.1)
 
 -- the tokens of a line are those of the line that is written again from them, but for their places
-pub spaced_lexemes : (line : List ℕ) → lexemes (spaced line) ≡ lexemes line
-spaced_lexemes line =
-    let same : joined (lexemes line) ≡ spaced line = ap (join_with_byte 32) (map-map (λ (x : Lexeme). x.1) (lexeme line) (tokens line)) in
-    let reads : ReadsAs 0 (spaced line) (lexemes line) =
-    subst (λ (l : List ℕ). ReadsAs 0 l (lexemes line)) same (reads_joined (lexemes line) (tokens_separate 0 line (tokens line) (tokens_are line))) in
-    ap (map (lexeme (spaced line))) (sym (tokens_only (spaced line) reads.0 reads.1)) ∙ reads.2
+pub spaced_bare_tokens : (line : List ℕ) → bare_tokens (spaced line) ≡ bare_tokens line
+spaced_bare_tokens line =
+    let same : joined (bare_tokens line) ≡ spaced line = ap (join_with_byte 32) (map-map (λ (x : BareToken). x.1) (bare_token line) (tokens line)) in
+    let reads : ReadsAs 0 (spaced line) (bare_tokens line) =
+    subst (λ (l : List ℕ). ReadsAs 0 l (bare_tokens line)) same (reads_joined (bare_tokens line) (tokens_separate 0 line (tokens line) (tokens_are line))) in
+    ap (map (bare_token (spaced line))) (sym (tokens_only (spaced line) reads.0 reads.1)) ∙ reads.2
 
-item_from : Lexeme → Item
+item_from : BareToken → Lexeme
 item_from x = item_of (sort_in x.1 x.0) (word_in x.1 x.0)
 
-items_from : (line : List ℕ) → map item_from (lexemes line) ≡ items_of line
+items_from : (line : List ℕ) → map item_from (bare_tokens line) ≡ items_of line
 unfolding item item_from
-items_from line = map-map item_from (lexeme line) (tokens line)
+items_from line = map-map item_from (bare_token line) (tokens line)
 
 -- the grammar takes both lines alike
 pub spaced_items : (line : List ℕ) → items_of (spaced line) ≡ items_of line
-spaced_items line = sym (items_from (spaced line)) ∙ (ap (map item_from) (spaced_lexemes line) ∙ items_from line)
+spaced_items line = sym (items_from (spaced line)) ∙ (ap (map item_from) (spaced_bare_tokens line) ∙ items_from line)

@@ -1,16 +1,16 @@
 -- What each call of the reader did, by what it began at: the machine's steps, and the counts and trees beside them.
 use Rattle.std.proofs.Common.{◌≡◌, ℕ, ◌+◌, ◌-◌, ◌<◌, ◌≤◌, max, List, [], ◌∷◌, ◌++◌, refl, ap, sym, ◌∙◌, subst, append_assoc, arith, None}
 use Rattle.mu_tree.specs.Names.{IsName}
-use Rattle.mu_tree.specs.declared.tree.Tree.{Tree}
+use Rattle.mu_tree.specs.declared.trees.Tree.{Tree}
 use Rattle.mu_text.specs.declared.symbol.Word.{Word}
 use Rattle.mu_text.specs.declared.symbol.Word.TheVariants.{Meta, Place}
 use Rattle.mu_text.specs.declared.way.Opening.TheVariants as opens
 use Rattle.mu_text.specs.declared.way.Ending.TheVariants as ends
-use Rattle.mu_text.specs.declared.fault.Fault.{Fault}
-use Rattle.mu_text.specs.declared.fault.Fault.TheVariants.{Stop, NoMemory}
+use Rattle.mu_text.specs.declared.fault.PartFault.{PartFault}
+use Rattle.mu_text.specs.declared.fault.PartFault.TheVariants.{Mismatch, NoMemory}
 use Rattle.mu_text.specs.declared.operand.Operand.{Operand}
 use Rattle.mu_text.specs.declared.operand.Several.{Several}
-use Rattle.mu_text.specs.Items.{Item, first_sort, after_first}
+use Rattle.mu_text.specs.Lexemes.{Lexeme, first_sort, after_first}
 use Rattle.mu_text.specs.Writings.{Writing, Writings, leaf, apply, one, more, made, nodes, nodes_of, deep, deep_of, Short, ShortAll, tree_of, trees_of}
 use Rattle.mu_text.specs.Parts.{stopped}
 use Rattle.mu_text.specs.Machine.{Stack, given, fill, want, named, have, run, after_name, opening_of, ending_of}
@@ -117,15 +117,15 @@ stands_all vs w o h = record {
 }
 
 -- behind a head
-head_free : (head : Word) (text : List ℕ) (n : ℕ) (k : Stack) (old : List Item) → opening_of head (first_sort old) ≡ opens.Nothing → run (named head text n k) old ≡ run (have n (leaf head text) k) old
+head_free : (head : Word) (text : List ℕ) (n : ℕ) (k : Stack) (old : List Lexeme) → opening_of head (first_sort old) ≡ opens.Nothing → run (named head text n k) old ≡ run (have n (leaf head text) k) old
 head_free head text n k [] e = refl
 head_free head text n k (item ∷ rest) e = run_same (named head text n k) (have n (leaf head text) k) item rest (ap (after_name head text n k item) e)
 
-pub head_alone : (head : Word) (text name : List ℕ) (n : ℕ) (old : List Item) (o : Operand) → opening_of head (first_sort old) ≡ opens.Nothing → (IsName text → name ≡ text)
+pub head_alone : (head : Word) (text name : List ℕ) (n : ℕ) (old : List Lexeme) (o : Operand) → opening_of head (first_sort old) ≡ opens.Nothing → (IsName text → name ≡ text)
     → Built (made head name []) 1 1 o → Goes (named head text n) (have n) old old o
 head_alone head text name n old o e f b = record { writing = leaf head text; stands = stands_leaf head text name o f b; goes = λ k. head_free head text n k old e }
 
-opening_goes : (head : Word) (text : List ℕ) (n : ℕ) (k : Stack) (old mid : List Item) → 0 < n → opening_of head (first_sort old) ≡ opens.Arguments → mid ≡ after_first old
+opening_goes : (head : Word) (text : List ℕ) (n : ℕ) (k : Stack) (old mid : List Lexeme) → 0 < n → opening_of head (first_sort old) ≡ opens.Arguments → mid ≡ after_first old
     → run (named head text n k) old ≡ run (want (n - 1) (given head text [] n k)) mid
 opening_goes head text n k [] mid z e j = at_none head e
   where
@@ -135,7 +135,7 @@ opening_goes head text n k [] mid z e j = at_none head e
     at_none _ e = cc
 opening_goes head text n k (item ∷ rest) mid z e j = arguments_run head text n k item rest e z ∙ ap (run (want (n - 1) (given head text [] n k))) (sym j)
 
-pub with_arguments : (head : Word) (text name : List ℕ) (n : ℕ) (old mid new : List Item) (o : Several) (p : Operand) → 0 < n → opening_of head (first_sort old) ≡ opens.Arguments → mid ≡ after_first old
+pub with_arguments : (head : Word) (text name : List ℕ) (n : ℕ) (old mid new : List Lexeme) (o : Several) (p : Operand) → 0 < n → opening_of head (first_sort old) ≡ opens.Arguments → mid ≡ after_first old
     → Gives head text n mid new o → (IsName text → name ≡ text) → Built (made head name o.trees) (o.size + 1) (o.depth + 1) p → Goes (named head text n) (have n) old new p
 with_arguments head text name n old mid new o p z e j g f b = record {
   writing = apply head text g.writings;
@@ -143,32 +143,32 @@ with_arguments head text name n old mid new o p z e j g f b = record {
   goes = λ k. opening_goes head text n k old mid z e j ∙ g.goes k;
 }
 
-pub err_arguments : (head : Word) (text : List ℕ) (n : ℕ) (old mid new : List Item) (fault : Fault) → 0 < n → opening_of head (first_sort old) ≡ opens.Arguments → mid ≡ after_first old
+pub err_arguments : (head : Word) (text : List ℕ) (n : ℕ) (old mid new : List Lexeme) (fault : PartFault) → 0 < n → opening_of head (first_sort old) ≡ opens.Arguments → mid ≡ after_first old
     → Stops (λ k. want (n - 1) (given head text [] n k)) mid new fault → Stops (named head text n) old new fault
 err_arguments head text n old mid new NoMemory z e j h = tt
-err_arguments head text n old mid new Stop z e j h = λ k. opening_goes head text n k old mid z e j ∙ h k
+err_arguments head text n old mid new Mismatch z e j h = λ k. opening_goes head text n k old mid z e j ∙ h k
 
 -- between arguments: some are read, and running on from where the first is wanted is running on from here
-abbrev pub Back : Word → List ℕ → ℕ → List Item → List Item → Several → Type 0
+abbrev pub Back : Word → List ℕ → ℕ → List Lexeme → List Lexeme → Several → Type 0
 Back head text n old mid o =
     (vs : List Writing) × StandsBack vs o × ((k : Stack) → run (want (n - 1) (given head text [] n k)) old ≡ run (want (n - 1) (given head text vs n k)) mid)
 
-goes_on_first : (head : Word) (text : List ℕ) (vs : List Writing) (n : ℕ) (w : Writing) (k : Stack) (ts : List Item) → ending_of (first_sort ts) ≡ ends.GoesOn
+goes_on_first : (head : Word) (text : List ℕ) (vs : List Writing) (n : ℕ) (w : Writing) (k : Stack) (ts : List Lexeme) → ending_of (first_sort ts) ≡ ends.GoesOn
     → run (have (n - 1) w (given head text vs n k)) ts ≡ run (want (n - 1) (given head text (w ∷ vs) n k)) (after_first ts)
 goes_on_first head text vs n w k [] e = cc
 goes_on_first head text vs n w k (item ∷ rest) e = goes_on_run head text vs n (n - 1) w k item rest e
 
-closes_first : (head : Word) (text : List ℕ) (vs : List Writing) (n : ℕ) (w : Writing) (k : Stack) (ts : List Item) → ending_of (first_sort ts) ≡ ends.Closes
+closes_first : (head : Word) (text : List ℕ) (vs : List Writing) (n : ℕ) (w : Writing) (k : Stack) (ts : List Lexeme) → ending_of (first_sort ts) ≡ ends.Closes
     → run (have (n - 1) w (given head text vs n k)) ts ≡ run (have n (apply head text (fill vs (one w))) k) (after_first ts)
 closes_first head text vs n w k [] e = cc
 closes_first head text vs n w k (item ∷ rest) e = ends_run head text vs n (n - 1) w k item rest e
 
-unended : (head : Word) (text : List ℕ) (vs : List Writing) (n m : ℕ) (w : Writing) (k : Stack) (ts : List Item) → ending_of (first_sort ts) ≡ ends.Nothing
+unended : (head : Word) (text : List ℕ) (vs : List Writing) (n m : ℕ) (w : Writing) (k : Stack) (ts : List Lexeme) → ending_of (first_sort ts) ≡ ends.Nothing
     → run (have m w (given head text vs n k)) ts ≡ stopped ts
 unended head text vs n m w k [] e = refl
 unended head text vs n m w k (item ∷ rest) e = rw (e, run) refl
 
-pub more_arguments : (head : Word) (text : List ℕ) (n : ℕ) (old mid after new : List Item) (o p : Several) (t : Operand) → Back head text n old mid o → Goes (want (n - 1)) (have (n - 1)) mid after t → Added o t p
+pub more_arguments : (head : Word) (text : List ℕ) (n : ℕ) (old mid after new : List Lexeme) (o p : Several) (t : Operand) → Back head text n old mid o → Goes (want (n - 1)) (have (n - 1)) mid after t → Added o t p
     → ending_of (first_sort after) ≡ ends.GoesOn → new ≡ after_first after → Back head text n old new p
 more_arguments head text n old mid after new o p t b w a e j = (
   w.writing ∷ b.0,
@@ -176,7 +176,7 @@ more_arguments head text n old mid after new o p t b w a e j = (
   λ k. b.2 k ∙ (w.goes (given head text b.0 n k) ∙ (goes_on_first head text b.0 n w.writing k after e ∙ ap (run (want (n - 1) (given head text (w.writing ∷ b.0) n k))) (sym j))),
 )
 
-pub last_argument : (head : Word) (text : List ℕ) (n : ℕ) (old mid after new : List Item) (o p : Several) (t : Operand) → Back head text n old mid o → Goes (want (n - 1)) (have (n - 1)) mid after t → Added o t p
+pub last_argument : (head : Word) (text : List ℕ) (n : ℕ) (old mid after new : List Lexeme) (o p : Several) (t : Operand) → Back head text n old mid o → Goes (want (n - 1)) (have (n - 1)) mid after t → Added o t p
     → ending_of (first_sort after) ≡ ends.Closes → new ≡ after_first after → Gives head text n old new p
 last_argument head text n old mid after new o p t b w a e j = record {
   writings = fill b.0 (one w.writing);
@@ -184,11 +184,11 @@ last_argument head text n old mid after new o p t b w a e j = record {
   goes = λ k. b.2 k ∙ (w.goes (given head text b.0 n k) ∙ (closes_first head text b.0 n w.writing k after e ∙ ap (run (have n (apply head text (fill b.0 (one w.writing))) k)) (sym j)));
 }
 
-pub argument_unended : (head : Word) (text : List ℕ) (n : ℕ) (old mid after : List Item) (o : Several) (t : Operand) → Back head text n old mid o → Goes (want (n - 1)) (have (n - 1)) mid after t
+pub argument_unended : (head : Word) (text : List ℕ) (n : ℕ) (old mid after : List Lexeme) (o : Several) (t : Operand) → Back head text n old mid o → Goes (want (n - 1)) (have (n - 1)) mid after t
     → ending_of (first_sort after) ≡ ends.Nothing → (k : Stack) → run (want (n - 1) (given head text [] n k)) old ≡ stopped after
 argument_unended head text n old mid after o t b w e k = b.2 k ∙ (w.goes (given head text b.0 n k) ∙ unended head text b.0 n (n - 1) w.writing k after e)
 
-pub err_argument : (head : Word) (text : List ℕ) (n : ℕ) (old mid new : List Item) (o : Several) (fault : Fault) → Back head text n old mid o → Stops (want (n - 1)) mid new fault
+pub err_argument : (head : Word) (text : List ℕ) (n : ℕ) (old mid new : List Lexeme) (o : Several) (fault : PartFault) → Back head text n old mid o → Stops (want (n - 1)) mid new fault
     → Stops (λ k. want (n - 1) (given head text [] n k)) old new fault
 err_argument head text n old mid new o NoMemory b h = tt
-err_argument head text n old mid new o Stop b h = λ k. b.2 k ∙ h (given head text b.0 n k)
+err_argument head text n old mid new o Mismatch b h = λ k. b.2 k ∙ h (given head text b.0 n k)

@@ -2,7 +2,7 @@
 use Rattle.std.proofs.Common.{◌≡◌, ℕ, zero, suc, ◌<◌, ◌≤◌, List, [], ◌∷◌, ◌++◌, length, Bool, true, false, refl, ap, sym, ◌∙◌, subst, append_assoc, append-nil, arith}
 use Rattle.std.specs.Prelude.{if◌then◌else◌}
 use Rattle.mu_text.specs.declared.symbol.Mark.{Mark}
-use Rattle.mu_text.specs.Items.{Item, after_first}
+use Rattle.mu_text.specs.Lexemes.{Lexeme, after_first}
 use Rattle.mu_text.specs.Marks.{is_mark}
 use Rattle.mu_text.specs.Parts.{Out, found, stopped, ◌>>=◌, Read, Same, StandsEach, starts, with_first, more_of, read_more, separated}
 use Rattle.mu_text.proofs.Exact.{Exact, shorter}
@@ -29,33 +29,33 @@ each_same (x ∷ xs) [] h = absurd h
 each_same (x ∷ xs) (y ∷ ys) h = let i : ys ≡ xs = each_same xs ys h.1 in let e : y ≡ x = h.0 in cc
 
 -- of the list that is read as a whole the items that c holds have been read, and the rest is read as before
-pub record Turn {A C : Type 0} (K : List A → C → Type 0) (sign : Mark) (item : List Item → Out A) (whole : Out (List A)) (rest : List Item) (c : C) : Type 0 where
+pub record Turn {A C : Type 0} (K : List A → C → Type 0) (sign : Mark) (item : List Lexeme → Out A) (whole : Out (List A)) (rest : List Lexeme) (c : C) : Type 0 where
   pub front : List A
   pub bound : ℕ
   pub enough : length rest ≤ bound
   pub stands : K front c
   pub same : extended front (more_of sign item bound rest) ≡ whole
 
-module _ {A C : Type 0} (K : List A → C → Type 0) (sign : Mark) (item : List Item → Out A) where
-  first_turn : (whole : Out (List A)) (rest : List Item) (x : A) (c : C) → whole ≡ with_first x (read_more sign item rest) → K (x ∷ []) c → Turn K sign item whole rest c
+module _ {A C : Type 0} (K : List A → C → Type 0) (sign : Mark) (item : List Lexeme → Out A) where
+  first_turn : (whole : Out (List A)) (rest : List Lexeme) (x : A) (c : C) → whole ≡ with_first x (read_more sign item rest) → K (x ∷ []) c → Turn K sign item whole rest c
   first_turn whole rest x c e k = record { front = x ∷ []; bound = length rest; enough = omega arith; stands = k; same = sym e }
 
-  on_sign : (n : ℕ) (T : Item) (mid : List Item) → is_mark sign T ≡ true → more_of sign item (suc n) (T ∷ mid) ≡ (item mid >>= (λ x r. with_first x (more_of sign item n r)))
+  on_sign : (n : ℕ) (T : Lexeme) (mid : List Lexeme) → is_mark sign T ≡ true → more_of sign item (suc n) (T ∷ mid) ≡ (item mid >>= (λ x r. with_first x (more_of sign item n r)))
   on_sign n T mid e = ap (λ b. if b then (item mid >>= (λ x r. with_first x (more_of sign item n r))) else found [] (T ∷ mid)) e
 
-  on_other : (n : ℕ) (rest : List Item) → length rest ≤ n → starts (is_mark sign) rest ≡ false → more_of sign item n rest ≡ found [] rest
+  on_other : (n : ℕ) (rest : List Lexeme) → length rest ≤ n → starts (is_mark sign) rest ≡ false → more_of sign item n rest ≡ found [] rest
   on_other n [] h e = refl
   on_other zero (T ∷ mid) h e = refl
   on_other (suc n) (T ∷ mid) h e = ap (λ b. if b then (item mid >>= (λ x r. with_first x (more_of sign item n r))) else found [] (T ∷ mid)) e
 
-  last_turn : (whole : Out (List A)) (rest : List Item) (c : C) → Turn K sign item whole rest c → starts (is_mark sign) rest ≡ false → Read K whole c rest
+  last_turn : (whole : Out (List A)) (rest : List Lexeme) (c : C) → Turn K sign item whole rest c → starts (is_mark sign) rest ≡ false → Read K whole c rest
   last_turn whole rest c t e = record {
     value = t.front;
     is = sym t.same ∙ (ap (extended t.front) (on_other t.bound rest t.enough e) ∙ ap (λ l. found l rest) (append-nil t.front));
     stands = t.stands;
   }
 
-  stopped_turn : (whole : Out (List A)) (rest mid new : List Item) (c : C) → Turn K sign item whole rest c → starts (is_mark sign) rest ≡ true → mid ≡ after_first rest → item mid ≡ stopped new
+  stopped_turn : (whole : Out (List A)) (rest mid new : List Lexeme) (c : C) → Turn K sign item whole rest c → starts (is_mark sign) rest ≡ true → mid ≡ after_first rest → item mid ≡ stopped new
       → whole ≡ stopped new
   stopped_turn whole [] mid new c t e j g = cc
   stopped_turn whole (T ∷ r) mid new c t e j g = at t.bound refl
@@ -67,8 +67,8 @@ module _ {A C : Type 0} (K : List A → C → Type 0) (sign : Mark) (item : List
           on_sign bound T r e ∙ (ap (λ l. item l >>= (λ z u. with_first z (more_of sign item bound u))) (sym j) ∙ ap (λ out. out >>= (λ z u. with_first z (more_of sign item bound u))) g) in
           sym t.same ∙ (ap (λ n. extended t.front (more_of sign item n (T ∷ r))) q ∙ ap (extended t.front) step)
 
-  module _ {B : Type 0} (S : A → B → Type 0) (G : List Item → A → Type 0) (R : List Item → Type 0) (P : Exact item G R) where
-    next_turn : (whole : Out (List A)) (rest mid new : List Item) (c d : C) (y : B) → Turn K sign item whole rest c → starts (is_mark sign) rest ≡ true → mid ≡ after_first rest
+  module _ {B : Type 0} (S : A → B → Type 0) (G : List Lexeme → A → Type 0) (R : List Lexeme → Type 0) (P : Exact item G R) where
+    next_turn : (whole : Out (List A)) (rest mid new : List Lexeme) (c d : C) (y : B) → Turn K sign item whole rest c → starts (is_mark sign) rest ≡ true → mid ≡ after_first rest
         → Read S (item mid) y new → ((front : List A) (x : A) → K front c → S x y → K (front ++ (x ∷ [])) d) → Turn K sign item whole new d
     next_turn whole [] mid new c d y t e j read k = cc
     next_turn whole (T ∷ r) mid new c d y t e j read k = at t.bound refl
@@ -89,49 +89,49 @@ module _ {A C : Type 0} (K : List A → C → Type 0) (sign : Mark) (item : List
               same = sym (again t.front read.value (more_of sign item bound new)) ∙ (ap (extended t.front) (sym step) ∙ (ap (λ n. extended t.front (more_of sign item n (T ∷ r))) (sym q) ∙ t.same));
             }
 
-module _ {A C : Type 0} {K : List A → C → Type 0} {sign : Mark} {item : List Item → Out A} where
+module _ {A C : Type 0} {K : List A → C → Type 0} {sign : Mark} {item : List Lexeme → Out A} where
   -- after the first item
-  pub begin : {whole : Out (List A)} {rest : List Item} {c : C} (x : A) → whole ≡ with_first x (read_more sign item rest) → K (x ∷ []) c → Turn K sign item whole rest c
+  pub begin : {whole : Out (List A)} {rest : List Lexeme} {c : C} (x : A) → whole ≡ with_first x (read_more sign item rest) → K (x ∷ []) c → Turn K sign item whole rest c
   begin {whole = whole} {rest = rest} {c = c} x e k = first_turn K sign item whole rest x c e k
 
   -- where no mark follows, the list is read
-  pub finish : {whole : Out (List A)} {rest : List Item} {c : C} {seen : Bool} → Turn K sign item whole rest c → seen ≡ starts (is_mark sign) rest → seen ≡ false → Read K whole c rest
+  pub finish : {whole : Out (List A)} {rest : List Lexeme} {c : C} {seen : Bool} → Turn K sign item whole rest c → seen ≡ starts (is_mark sign) rest → seen ≡ false → Read K whole c rest
   finish {whole = whole} {rest = rest} {c = c} {seen = seen} t e fails = last_turn K sign item whole rest c t (sym e ∙ fails)
 
   -- where no item goes on behind the mark, neither does the list
-  pub stops : {whole : Out (List A)} {rest mid new : List Item} {c : C} {seen : Bool} → Turn K sign item whole rest c → seen ≡ starts (is_mark sign) rest → seen ≡ true → mid ≡ after_first rest
+  pub stops : {whole : Out (List A)} {rest mid new : List Lexeme} {c : C} {seen : Bool} → Turn K sign item whole rest c → seen ≡ starts (is_mark sign) rest → seen ≡ true → mid ≡ after_first rest
       → item mid ≡ stopped new → whole ≡ stopped new
   stops {whole = whole} {rest = rest} {mid = mid} {new = new} {c = c} {seen = seen} t e passes j g = stopped_turn K sign item whole rest mid new c t (sym e ∙ passes) j g
 
-  module _ {B : Type 0} {S : A → B → Type 0} {G : List Item → A → Type 0} {R : List Item → Type 0} (P : Exact item G R) where
+  module _ {B : Type 0} {S : A → B → Type 0} {G : List Lexeme → A → Type 0} {R : List Lexeme → Type 0} (P : Exact item G R) where
     -- after one more mark and item
-    pub advance : {whole : Out (List A)} {rest mid new : List Item} {c d : C} {y : B} {seen : Bool} → Turn K sign item whole rest c → seen ≡ starts (is_mark sign) rest → seen ≡ true → mid ≡ after_first rest
+    pub advance : {whole : Out (List A)} {rest mid new : List Lexeme} {c d : C} {y : B} {seen : Bool} → Turn K sign item whole rest c → seen ≡ starts (is_mark sign) rest → seen ≡ true → mid ≡ after_first rest
         → Read S (item mid) y new → ((front : List A) (x : A) → K front c → S x y → K (front ++ (x ∷ [])) d) → Turn K sign item whole new d
     advance {whole = whole} {rest = rest} {mid = mid} {new = new} {c = c} {d = d} {y = y} {seen = seen} t e passes j read k = next_turn K sign item S G R P whole rest mid new c d y t (sym e ∙ passes) j read k
 
 -- a turn leaves fewer tokens
-pub fewer : {A B : Type 0} {S : A → B → Type 0} {item : List Item → Out A} {G : List Item → A → Type 0} {R : List Item → Type 0} (sign : Mark) (P : Exact item G R) (rest mid : List Item) {new : List Item} {y : B} {seen : Bool}
+pub fewer : {A B : Type 0} {S : A → B → Type 0} {item : List Lexeme → Out A} {G : List Lexeme → A → Type 0} {R : List Lexeme → Type 0} (sign : Mark) (P : Exact item G R) (rest mid : List Lexeme) {new : List Lexeme} {y : B} {seen : Bool}
     → seen ≡ starts (is_mark sign) rest → seen ≡ true → mid ≡ after_first rest → Read S (item mid) y new → length new < length rest
 fewer {S = S} {item = item} {G = G} {R = R} sign P rest mid {new = new} {y = y} e passes j read = at rest (sym e ∙ passes) j
   where
-    at : (rest : List Item) → starts (is_mark sign) rest ≡ true → mid ≡ after_first rest → length new < length rest
+    at : (rest : List Lexeme) → starts (is_mark sign) rest ≡ true → mid ≡ after_first rest → length new < length rest
     at [] h i = cc
     at (T ∷ r) h i = let m : length mid ≡ length r = ap length i in let less : length new ≤ length mid = shorter item G R P mid read.value new read.is in omega arith
 
-module _ {A B : Type 0} {S : A → B → Type 0} {sign : Mark} {item : List Item → Out A} {G : List Item → A → Type 0} {R : List Item → Type 0} (P : Exact item G R) where
+module _ {A B : Type 0} {S : A → B → Type 0} {sign : Mark} {item : List Lexeme → Out A} {G : List Lexeme → A → Type 0} {R : List Lexeme → Type 0} (P : Exact item G R) where
   -- the turns of a loop that keeps a value for each item
-  pub start : {old rest : List Item} {none ys : List B} {y : B} → Read S (item old) y rest → none ≡ [] → ys ≡ none ++ (y ∷ []) → Turn (StandsEach S) sign item (separated sign item old) rest ys
+  pub start : {old rest : List Lexeme} {none ys : List B} {y : B} → Read S (item old) y rest → none ≡ [] → ys ≡ none ++ (y ∷ []) → Turn (StandsEach S) sign item (separated sign item old) rest ys
   start {old = old} {rest = rest} {none = none} {ys = ys} {y = y} read n i =
       let one : ys ≡ y ∷ [] = i ∙ ap (λ l. l ++ (y ∷ [])) n in
       first_turn (StandsEach S) sign item (separated sign item old) rest read.value ys (ap (λ out. out >>= (λ z r. with_first z (read_more sign item r))) read.is)
       (subst (λ (l : List B). StandsEach S (read.value ∷ []) l) (sym one) (read.stands, tt))
 
-  pub turn : {whole : Out (List A)} {rest mid new : List Item} {ys zs : List B} {y : B} {seen : Bool} → Turn (StandsEach S) sign item whole rest ys → seen ≡ starts (is_mark sign) rest → seen ≡ true
+  pub turn : {whole : Out (List A)} {rest mid new : List Lexeme} {ys zs : List B} {y : B} {seen : Bool} → Turn (StandsEach S) sign item whole rest ys → seen ≡ starts (is_mark sign) rest → seen ≡ true
       → mid ≡ after_first rest → Read S (item mid) y new → zs ≡ ys ++ (y ∷ []) → Turn (StandsEach S) sign item whole new zs
   turn {whole = whole} {rest = rest} {mid = mid} {new = new} {ys = ys} {zs = zs} {y = y} {seen = seen} t e passes j read i =
       next_turn (StandsEach S) sign item S G R P whole rest mid new ys zs y t (sym e ∙ passes) j read
       (λ front x k s. subst (λ (l : List B). StandsEach S (front ++ (x ∷ [])) l) (sym i) (each_more S front ys x y k s))
 
 -- where each value is the spelled one, so is the list
-pub finish_same : {A : Type 0} {out : Out (List A)} {ys : List A} {rest : List Item} → Read (StandsEach (Same {A = A})) out ys rest → Read (Same {A = List A}) out ys rest
+pub finish_same : {A : Type 0} {out : Out (List A)} {ys : List A} {rest : List Lexeme} → Read (StandsEach (Same {A = A})) out ys rest → Read (Same {A = List A}) out ys rest
 finish_same {ys = ys} read = record { value = read.value; is = read.is; stands = each_same read.value ys read.stands }

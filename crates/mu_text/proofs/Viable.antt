@@ -10,19 +10,19 @@ use Rattle.mu_text.specs.declared.way.Opening.{Opening}
 use Rattle.mu_text.specs.declared.way.Opening.TheVariants as opens
 use Rattle.mu_text.specs.declared.way.Ending.{Ending}
 use Rattle.mu_text.specs.declared.way.Ending.TheVariants as ends
-use Rattle.mu_text.specs.Items.{Item, word, mark, bytes_of}
+use Rattle.mu_text.specs.Lexemes.{Lexeme, word, mark, bytes_of}
 use Rattle.mu_text.specs.Writings.{Writing, Writings, leaf, apply, one, more, tokens, tokens_of, is_head, takes_arguments, Fits, FitsAll, IsTree}
 use Rattle.mu_text.specs.Parts.{Begins, Out, found, stopped}
 use Rattle.mu_text.specs.Machine.{Stack, top, given, fill, Mode, want, named, have, Next, go, done, stop, open_level, begin, close_given, close, after_name, beginning, opening, ending, step, finish, at_end, run}
 use Rattle.mu_text.proofs.Complete.{run_go, le_from}
 
 -- the tokens of the arguments before, each with its comma
-abbrev pub earlier : List Writing → List Item
+abbrev pub earlier : List Writing → List Lexeme
 earlier [] = []
 earlier (w ∷ vs) = earlier vs ++ (tokens w ++ (mark Comma ∷ []))
 
 -- the tokens that have been read
-abbrev pub before : Stack → List Item
+abbrev pub before : Stack → List Lexeme
 before top = []
 before (given head name vs n k) = before k ++ (word head name ∷ mark Open ∷ earlier vs)
 
@@ -31,7 +31,7 @@ abbrev pub some : Writing
 some = leaf Plain (97 ∷ [])
 
 -- the fewest tokens that end it
-abbrev pub behind : Stack → List Item
+abbrev pub behind : Stack → List Lexeme
 behind top = []
 behind (given head name vs n k) = mark Close ∷ behind k
 
@@ -55,12 +55,12 @@ Good m (named head name n k) = (is_head head ≡ true) × Valid m n k
 Good m (have n w k) = Fits n w × Valid m n k
 
 -- all tokens that have been read
-abbrev pub seen : Mode → List Item
+abbrev pub seen : Mode → List Lexeme
 seen (want n k) = before k
 seen (named head name n k) = before k ++ (word head name ∷ [])
 seen (have n w k) = before k ++ tokens w
 
-abbrev pub GoodNext : ℕ → List Item → Item → Next → Type 0
+abbrev pub GoodNext : ℕ → List Lexeme → Lexeme → Next → Type 0
 GoodNext m front item (go mode) = Good m mode × (seen mode ≡ front ++ (item ∷ []))
 GoodNext m front item (done w) = Fits m w × (tokens w ≡ front)
 GoodNext m front item stop = Unit {0}
@@ -92,7 +92,7 @@ alive m (named head name n k) g = (behind k, plug k (leaf head name), (fits-plug
 alive m (have n w k) g = (behind k, plug k w, (fits-plug m n k w g.1 g.0, tokens-plug k w ∙ simp append_assoc))
 
 -- what the small answers say of the token
-pub at_head : (head : Word) (item : Item) → beginning item ≡ begins.Head head → (item ≡ word head (bytes_of item)) × (is_head head ≡ true)
+pub at_head : (head : Word) (item : Lexeme) → beginning item ≡ begins.Head head → (item ≡ word head (bytes_of item)) × (is_head head ≡ true)
 at_head head (word Place name) e = cc
 at_head Plain (word Plain name) e = (refl, refl)
 at_head Dotted (word Dotted name) e = (refl, refl)
@@ -101,32 +101,32 @@ at_head Meta (word Meta name) e = (refl, refl)
 at_head head (word _ name) e = cc
 at_head head (mark _) e = cc
 
-pub at_opener : (head : Word) (item : Item) → opening head item ≡ opens.Arguments → (item ≡ mark Open) × (takes_arguments head ≡ true)
+pub at_opener : (head : Word) (item : Lexeme) → opening head item ≡ opens.Arguments → (item ≡ mark Open) × (takes_arguments head ≡ true)
 at_opener Place item e = cc
 at_opener Meta item e = cc
 at_opener _ (word other name) e = cc
 at_opener _ (mark Open) e = (refl, refl)
 at_opener _ (mark _) e = cc
 
-pub at_close : (item : Item) → ending item ≡ ends.Closes → item ≡ mark Close
+pub at_close : (item : Lexeme) → ending item ≡ ends.Closes → item ≡ mark Close
 at_close (word other name) e = cc
 at_close (mark Close) e = refl
 at_close (mark _) e = cc
 
-pub at_comma : (item : Item) → ending item ≡ ends.GoesOn → item ≡ mark Comma
+pub at_comma : (item : Lexeme) → ending item ≡ ends.GoesOn → item ≡ mark Comma
 at_comma (word other name) e = cc
 at_comma (mark Comma) e = refl
 at_comma (mark _) e = cc
 
 -- each step keeps that what is read begins a writing
-open_good : (m : ℕ) (front : List Item) (item : Item) (n : ℕ) (mode : Mode) → (0 < n → GoodNext m front item (go mode)) → GoodNext m front item (open_level n mode)
+open_good : (m : ℕ) (front : List Lexeme) (item : Lexeme) (n : ℕ) (mode : Mode) → (0 < n → GoodNext m front item (go mode)) → GoodNext m front item (open_level n mode)
 open_good m front item n mode h = pick (nat_le 1 n) (λ e. let i : 1 ≤ n = le_from 1 n e in h (omega arith))
   where
     pick : (b : Bool) → (b ≡ true → GoodNext m front item (go mode)) → GoodNext m front item (if b then go mode else stop)
     pick true f = f refl
     pick false f = tt
 
-given_good : (m n : ℕ) (head : Word) (name : List ℕ) (vs : List Writing) (outer : ℕ) (k : Stack) (w : Writing) (item : Item) → Valid m n (given head name vs outer k) → Fits n w
+given_good : (m n : ℕ) (head : Word) (name : List ℕ) (vs : List Writing) (outer : ℕ) (k : Stack) (w : Writing) (item : Lexeme) → Valid m n (given head name vs outer k) → Fits n w
     → (e : Ending) → ending item ≡ e → GoodNext m (before (given head name vs outer k) ++ tokens w) item (close_given head name vs outer w k e)
 given_good m n head name vs outer k w item v f ends.Closes e =
     let t : item ≡ mark Close = at_close item e in
@@ -136,35 +136,35 @@ given_good m n head name vs outer k w item v f ends.GoesOn e =
     ((v.0, v.1, refl, (move n (outer - 1) w v.2 f, v.3), v.4), rw t (simp append_assoc))
 given_good m n head name vs outer k w item v f ends.Nothing e = tt
 
-close_good : (k : Stack) (w : Writing) (item : Item) (m n : ℕ) → Valid m n k → Fits n w → GoodNext m (before k ++ tokens w) item (close k w item)
+close_good : (k : Stack) (w : Writing) (item : Lexeme) (m n : ℕ) → Valid m n k → Fits n w → GoodNext m (before k ++ tokens w) item (close k w item)
 close_good top w item m n v f = (move n m w v f, refl)
 close_good (given head name vs outer k) w item m n v f = given_good m n head name vs outer k w item v f (ending item) refl
 
-begin_good : (m n : ℕ) (k : Stack) (item : Item) → Valid m n k → (b : Beginning) → beginning item ≡ b → GoodNext m (before k) item (begin n k (bytes_of item) b)
+begin_good : (m n : ℕ) (k : Stack) (item : Lexeme) → Valid m n k → (b : Beginning) → beginning item ≡ b → GoodNext m (before k) item (begin n k (bytes_of item) b)
 begin_good m n k item v (begins.Head head) e =
     let t : (item ≡ word head (bytes_of item)) × (is_head head ≡ true) = at_head head item e in ((t.1, v), ap (λ first. before k ++ (first ∷ [])) (sym t.0))
 begin_good m n k item v begins.Nothing e = tt
 
-name_good : (m : ℕ) (head : Word) (name : List ℕ) (n : ℕ) (k : Stack) (item : Item) → is_head head ≡ true → Valid m n k → (o : Opening) → opening head item ≡ o
+name_good : (m : ℕ) (head : Word) (name : List ℕ) (n : ℕ) (k : Stack) (item : Lexeme) → is_head head ≡ true → Valid m n k → (o : Opening) → opening head item ≡ o
     → GoodNext m (before k ++ (word head name ∷ [])) item (after_name head name n k item o)
 name_good m head name n k item h v opens.Arguments e =
     let t : (item ≡ mark Open) × (takes_arguments head ≡ true) = at_opener head item e in
     open_good m (before k ++ (word head name ∷ [])) item n (want (n - 1) (given head name [] n k)) (λ i. ((t.1, i, refl, tt, v), rw t.0 (simp append_assoc)))
 name_good m head name n k item h v opens.Nothing e = close_good k (leaf head name) item m n v h
 
-pub step_good : (m : ℕ) (mode : Mode) (item : Item) → Good m mode → GoodNext m (seen mode) item (step mode item)
+pub step_good : (m : ℕ) (mode : Mode) (item : Lexeme) → Good m mode → GoodNext m (seen mode) item (step mode item)
 step_good m (want n k) item g = begin_good m n k item g (beginning item) refl
 step_good m (named head name n k) item g = name_good m head name n k item g.0 g.1 (opening head item) refl
 step_good m (have n w k) item g = close_good k w item m n g.1 g.0
 
 -- what holds of an answer to the tokens ts, after front; and the first token that is left decides it, whatever follows that
-abbrev pub Answers : ℕ → Mode → List Item → List Item → Out Writing → Type 0
+abbrev pub Answers : ℕ → Mode → List Lexeme → List Lexeme → Out Writing → Type 0
 Answers m mode front ts (found w rest) =
-    Fits m w × (taken : List Item) × (ts ≡ taken ++ rest) × (tokens w ≡ front ++ taken)
-    × ((item : Item) (behind other : List Item) → rest ≡ item ∷ behind → run mode (taken ++ (item ∷ other)) ≡ found w (item ∷ other))
+    Fits m w × (taken : List Lexeme) × (ts ≡ taken ++ rest) × (tokens w ≡ front ++ taken)
+    × ((item : Lexeme) (behind other : List Lexeme) → rest ≡ item ∷ behind → run mode (taken ++ (item ∷ other)) ≡ found w (item ∷ other))
 Answers m mode front ts (stopped rest) =
-    (taken : List Item) × (ts ≡ taken ++ rest) × Begins (IsTree m) (front ++ taken)
-    × ((item : Item) (behind other : List Item) → rest ≡ item ∷ behind → run mode (taken ++ (item ∷ other)) ≡ stopped (item ∷ other))
+    (taken : List Lexeme) × (ts ≡ taken ++ rest) × Begins (IsTree m) (front ++ taken)
+    × ((item : Lexeme) (behind other : List Lexeme) → rest ≡ item ∷ behind → run mode (taken ++ (item ∷ other)) ≡ stopped (item ∷ other))
 
 finish_good : (m n : ℕ) (k : Stack) (w : Writing) (mode : Mode) → Valid m n k → Fits n w → Begins (IsTree m) (before k ++ tokens w) → Answers m mode (before k ++ tokens w) [] (finish k w)
 finish_good m n top w mode v f b = (move n m w v f, [], refl, sym (append-nil (tokens w)), λ item behind other i. cc)
@@ -175,7 +175,7 @@ end_good m (want n k) g = ([], refl, rw append-nil (alive m (want n k) g), λ it
 end_good m (named head name n k) g = finish_good m n k (leaf head name) (named head name n k) g.1 g.0 (alive m (named head name n k) g)
 end_good m (have n w k) g = finish_good m n k w (have n w k) g.1 g.0 (alive m (have n w k) g)
 
-earlier_answer : (m : ℕ) (mode next : Mode) (item : Item) (rest : List Item) → step mode item ≡ go next → seen next ≡ seen mode ++ (item ∷ []) → (out : Out Writing)
+earlier_answer : (m : ℕ) (mode next : Mode) (item : Lexeme) (rest : List Lexeme) → step mode item ≡ go next → seen next ≡ seen mode ++ (item ∷ []) → (out : Out Writing)
     → Answers m next (seen next) rest out → Answers m mode (seen mode) (item ∷ rest) out
 earlier_answer m mode next item rest e i (found w left) a = (
   a.0,
@@ -191,13 +191,13 @@ earlier_answer m mode next item rest e i (stopped left) a = (
   λ first behind other j. run_go mode item (a.0 ++ (first ∷ other)) next e ∙ a.3 first behind other j,
 )
 
-abbrev onward : Next → Item → List Item → Out Writing
+abbrev onward : Next → Lexeme → List Lexeme → Out Writing
 onward x item rest = elim x [ go next ↦ run next rest | done w ↦ found w (item ∷ rest) | stop ↦ stopped (item ∷ rest) ]
 
-run_next : (mode : Mode) (item : Item) (rest : List Item) (x : Next) → step mode item ≡ x → run mode (item ∷ rest) ≡ onward x item rest
+run_next : (mode : Mode) (item : Lexeme) (rest : List Lexeme) (x : Next) → step mode item ≡ x → run mode (item ∷ rest) ≡ onward x item rest
 run_next mode item rest x e = rw (e, run) refl
 
-next_good : (rest : List Item) (m : ℕ) (mode : Mode) (item : Item) → ((next : Mode) → Good m next → Answers m next (seen next) rest (run next rest)) → (x : Next) → step mode item ≡ x → Good m mode
+next_good : (rest : List Lexeme) (m : ℕ) (mode : Mode) (item : Lexeme) → ((next : Mode) → Good m next → Answers m next (seen next) rest (run next rest)) → (x : Next) → step mode item ≡ x → Good m mode
     → GoodNext m (seen mode) item x → Answers m mode (seen mode) (item ∷ rest) (onward x item rest)
 next_good rest m mode item later (go next) e g h = earlier_answer m mode next item rest e h.1 (run next rest) (later next h.0)
 next_good rest m mode item later (done w) e g h = (
@@ -205,16 +205,16 @@ next_good rest m mode item later (done w) e g h = (
   [],
   refl,
   h.1 ∙ sym (append-nil (seen mode)),
-  λ first behind other j. let same : item ≡ first = cc in subst (λ (one : Item). run mode (one ∷ other) ≡ found w (one ∷ other)) same (run_next mode item other (done w) e),
+  λ first behind other j. let same : item ≡ first = cc in subst (λ (one : Lexeme). run mode (one ∷ other) ≡ found w (one ∷ other)) same (run_next mode item other (done w) e),
 )
 next_good rest m mode item later stop e g h = (
   [],
   refl,
   rw append-nil (alive m mode g),
-  λ first behind other j. let same : item ≡ first = cc in subst (λ (one : Item). run mode (one ∷ other) ≡ stopped (one ∷ other)) same (run_next mode item other stop e),
+  λ first behind other j. let same : item ≡ first = cc in subst (λ (one : Lexeme). run mode (one ∷ other) ≡ stopped (one ∷ other)) same (run_next mode item other stop e),
 )
 
-pub run_good : (ts : List Item) (m : ℕ) (mode : Mode) → Good m mode → Answers m mode (seen mode) ts (run mode ts)
+pub run_good : (ts : List Lexeme) (m : ℕ) (mode : Mode) → Good m mode → Answers m mode (seen mode) ts (run mode ts)
 run_good [] m mode g = end_good m mode g
 run_good (item ∷ rest) m mode g = next_good rest m mode item (λ next h. run_good rest m next h) (step mode item) refl g (step_good m mode item g)
 
@@ -226,6 +226,6 @@ pub start_good : (m : ℕ) → Good m (start m)
 start_good m = refl
 
 -- behind a tree alone nothing more is read
-pub stays : (n : ℕ) (w : Writing) (rest : List Item) → run (have n w top) rest ≡ found w rest
+pub stays : (n : ℕ) (w : Writing) (rest : List Lexeme) → run (have n w top) rest ≡ found w rest
 stays n w [] = refl
 stays n w (item ∷ rest) = run_next (have n w top) item rest (done w) refl

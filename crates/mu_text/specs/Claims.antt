@@ -6,7 +6,7 @@ use Rattle.mu_tree.specs.declared.claim.Hyp.TheVariants as hyp
 use Rattle.mu_tree.specs.declared.claim.Claim.{Claim}
 use Rattle.mu_text.specs.declared.excess.Measured.{Measured}
 use Rattle.mu_text.specs.declared.symbol.Mark.TheVariants.{Semicolon, Turnstile}
-use Rattle.mu_text.specs.Items.{Item, mark}
+use Rattle.mu_text.specs.Lexemes.{Lexeme, mark}
 use Rattle.mu_text.specs.Marks.{is_mark}
 use Rattle.mu_text.specs.Parts.{Out, chain, either, given_back, mapped, Separated, read_more}
 use Rattle.mu_text.specs.SimpleParts.{read_mark}
@@ -24,16 +24,16 @@ pub record Sentence : Type 0 where
   pub conclusion : Writing
 
 -- a hypothesis is spelled as its tree
-abbrev pub IsHypothesis : List Item → Hypothesis → Type 0
+abbrev pub IsHypothesis : List Lexeme → Hypothesis → Type 0
 IsHypothesis ts (plain w) = OneTree ts w
 
 -- a conclusion alone; or hypotheses with semicolons between them, a turnstile, and the conclusion
-abbrev pub Claims : List Item → List Hypothesis → Writing → Type 0
+abbrev pub Claims : List Lexeme → List Hypothesis → Writing → Type 0
 Claims ts [] conclusion = OneTree ts conclusion
-Claims ts (h ∷ hs) conclusion = (a b : List Item) × (ts ≡ a ++ (mark Turnstile ∷ b)) × Separated Semicolon IsHypothesis a (h ∷ hs) × OneTree b conclusion
+Claims ts (h ∷ hs) conclusion = (a b : List Lexeme) × (ts ≡ a ++ (mark Turnstile ∷ b)) × Separated Semicolon IsHypothesis a (h ∷ hs) × OneTree b conclusion
 
 -- a claim
-abbrev pub IsClaim : List Item → Sentence → Type 0
+abbrev pub IsClaim : List Lexeme → Sentence → Type 0
 IsClaim ts x = Claims ts x.hyps x.conclusion
 
 -- the hypothesis that is meant
@@ -79,7 +79,7 @@ abbrev pub StandsClaim : Sentence → Measured Claim → Type 0
 StandsClaim x m = IsMeasured trees_in_claim WithinClaim claim_of x m
 
 -- whether a claim goes on with the token behind its first tree
-abbrev pub goes_on : Item → Bool
+abbrev pub goes_on : Lexeme → Bool
 goes_on T = is_mark Semicolon T || is_mark Turnstile T
 
 -- the claim with these hypotheses
@@ -87,21 +87,21 @@ abbrev pub concluding : List Hypothesis → Writing → Sentence
 concluding hs conclusion = record { hyps = hs; conclusion = conclusion }
 
 -- reads a hypothesis
-unfoldable pub read_hypothesis : List Item → Out Hypothesis
+unfoldable pub read_hypothesis : List Lexeme → Out Hypothesis
 read_hypothesis ts = mapped plain read_tree ts
 
 -- reads the hypotheses behind the first one
-abbrev pub read_hypotheses : Hypothesis → List Item → Out (List Hypothesis)
+abbrev pub read_hypotheses : Hypothesis → List Lexeme → Out (List Hypothesis)
 read_hypotheses h ts = mapped (λ hs. h ∷ hs) (read_more Semicolon read_hypothesis) ts
 
 -- reads what follows the first hypothesis
-abbrev pub read_concluded : Hypothesis → List Item → Out Sentence
+abbrev pub read_concluded : Hypothesis → List Lexeme → Out Sentence
 read_concluded h ts = chain (read_hypotheses h) (λ hs. chain (read_mark Turnstile) (λ _. mapped (concluding hs) read_tree)) ts
 
 -- reads what follows the first hypothesis, which is the conclusion where nothing does
-abbrev pub read_after : Hypothesis → List Item → Out Sentence
+abbrev pub read_after : Hypothesis → List Lexeme → Out Sentence
 read_after (plain w) ts = either goes_on (read_concluded (plain w)) (given_back (concluding [] w)) ts
 
 -- reads a claim
-unfoldable pub read_claim : List Item → Out Sentence
+unfoldable pub read_claim : List Lexeme → Out Sentence
 read_claim ts = chain read_hypothesis read_after ts

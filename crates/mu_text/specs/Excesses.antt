@@ -1,7 +1,7 @@
 -- How what was read is measured: which limits its trees pass, and when the code's value is what the spelled one stands for.
 use Rattle.std.specs.Prelude.{◌≡◌, Bool, false, nat_lt, List, [], ◌∷◌, ◌++◌, map}
 use Rattle.std.specs.List.{list_any, AllByRecursion}
-use Rattle.mu_tree.specs.declared.tree.Tree.{Tree}
+use Rattle.mu_tree.specs.declared.trees.Tree.{Tree}
 use Rattle.mu_text.specs.declared.excess.Excess.{Excess}
 use Rattle.mu_text.specs.declared.excess.Measured.{Measured}
 use Rattle.mu_text.specs.Writings.{Writing, nodes, deep, tree_of, Short}

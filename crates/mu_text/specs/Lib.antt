@@ -1,7 +1,7 @@
 pub mod Claims
 pub mod Excesses
 pub mod Groups
-pub mod Items
+pub mod Lexemes
 pub mod Limits
 pub mod Machine
 pub mod Marks

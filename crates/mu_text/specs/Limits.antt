@@ -3,24 +3,24 @@ use Rattle.std.specs.Prelude.{Bool, true, ◌&&◌, List}
 use Rattle.std.specs.List.{AllByRecursion}
 use Rattle.mu_tree.specs.Names.{is_name, is_short, IsName}
 use Rattle.mu_text.specs.declared.symbol.Word.TheVariants.{Place}
-use Rattle.mu_text.specs.Items.{Item, word, mark}
+use Rattle.mu_text.specs.Lexemes.{Lexeme, word, mark}
 
 -- the name or the metavariable that the token is, if it is one, is within the limit of names
-abbrev pub WithinToken : Item → Type 0
+abbrev pub WithinToken : Lexeme → Type 0
 WithinToken (word Place text) = Unit {0}
 WithinToken (word _ text) = IsName text
 WithinToken (mark m) = Unit {0}
 
 -- so is each of the tokens
-abbrev pub WithinTokens : List Item → Type 0
+abbrev pub WithinTokens : List Lexeme → Type 0
 WithinTokens ts = AllByRecursion WithinToken ts
 
 -- the test for it
-abbrev pub is_within : Item → Bool
+abbrev pub is_within : Lexeme → Bool
 is_within (word Place text) = true
 is_within (word _ text) = is_name text && is_short text
 is_within (mark m) = true
 
 -- what is spelled by tokens within the limit is within it
-abbrev pub KeepsNames : {A : Type 0} → (List Item → A → Type 0) → (A → Type 0) → Type 0
-KeepsNames {A} G Within = (ts : List Item) (x : A) → WithinTokens ts → G ts x → Within x
+abbrev pub KeepsNames : {A : Type 0} → (List Lexeme → A → Type 0) → (A → Type 0) → Type 0
+KeepsNames {A} G Within = (ts : List Lexeme) (x : A) → WithinTokens ts → G ts x → Within x

@@ -11,7 +11,7 @@ use Rattle.mu_text.specs.declared.way.Opening.{Opening}
 use Rattle.mu_text.specs.declared.way.Opening.TheVariants as opens
 use Rattle.mu_text.specs.declared.way.Ending.{Ending}
 use Rattle.mu_text.specs.declared.way.Ending.TheVariants as ends
-use Rattle.mu_text.specs.Items.{Item, sort_of, bytes_of}
+use Rattle.mu_text.specs.Lexemes.{Lexeme, sort_of, bytes_of}
 use Rattle.mu_text.specs.Parts.{Out, found, stopped}
 use Rattle.mu_text.specs.Writings.{Writing, Writings, leaf, apply, one, more}
 
@@ -35,13 +35,13 @@ ending_of (Some (sort.Mark Close)) = ends.Closes
 ending_of _ = ends.Nothing
 
 -- the same of a token
-abbrev pub beginning : Item → Beginning
+abbrev pub beginning : Lexeme → Beginning
 beginning item = beginning_of (Some (sort_of item))
 
-abbrev pub opening : Word → Item → Opening
+abbrev pub opening : Word → Lexeme → Opening
 opening head item = opening_of head (Some (sort_of item))
 
-abbrev pub ending : Item → Ending
+abbrev pub ending : Lexeme → Ending
 ending item = ending_of (Some (sort_of item))
 
 -- what waits for the tree that is being read: nothing, or a head whose arguments before it are read, the last one first;
@@ -83,17 +83,17 @@ close_given head name vs n w k ends.GoesOn = go (want (n - 1) (given head name (
 close_given head name vs n w k ends.Nothing = stop
 
 -- the token is no part of w, which is handed to what waits for it
-abbrev pub close : Stack → Writing → Item → Next
+abbrev pub close : Stack → Writing → Lexeme → Next
 close top w item = done w
 close (given head name vs n k) w item = close_given head name vs n w k (ending item)
 
 -- behind a head
-abbrev pub after_name : Word → List ℕ → ℕ → Stack → Item → Opening → Next
+abbrev pub after_name : Word → List ℕ → ℕ → Stack → Lexeme → Opening → Next
 after_name head name n k item opens.Arguments = open_level n (want (n - 1) (given head name [] n k))
 after_name head name n k item opens.Nothing = close k (leaf head name) item
 
 -- one token is taken in some mode
-abbrev pub step : Mode → Item → Next
+abbrev pub step : Mode → Lexeme → Next
 step (want n k) item = begin n k (bytes_of item) (beginning item)
 step (named head name n k) item = after_name head name n k item (opening head item)
 step (have n w k) item = close k w item
@@ -110,6 +110,6 @@ at_end (named head name n k) = finish k (leaf head name)
 at_end (have n w k) = finish k w
 
 -- all tokens are taken, from some mode on
-abbrev pub run : Mode → List Item → Out Writing
+abbrev pub run : Mode → List Lexeme → Out Writing
 run mode [] = at_end mode
 run mode (item ∷ rest) = elim (step mode item) [ go next ↦ run next rest | done w ↦ found w (item ∷ rest) | stop ↦ stopped (item ∷ rest) ]

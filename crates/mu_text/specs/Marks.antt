@@ -3,7 +3,7 @@ use Rattle.std.specs.Prelude.{ℕ, Bool, false}
 use Rattle.std.specs.Bool.{nat_eq}
 use Rattle.mu_text.specs.declared.symbol.Mark.{Mark}
 use Rattle.mu_text.specs.declared.symbol.Mark.TheVariants.{And, Or, Not, Iff, Imp, Eq, Colon, Open, Close, OpenBracket, CloseBracket, OpenBrace, CloseBrace, Comma, Semicolon, Dot, Becomes, Bar, Turnstile, Arrow, Wrong}
-use Rattle.mu_text.specs.Items.{Item, word, mark}
+use Rattle.mu_text.specs.Lexemes.{Lexeme, word, mark}
 
 -- a number of its own for each mark
 abbrev pub number_of_mark : Mark → ℕ
@@ -30,6 +30,6 @@ number_of_mark Arrow = 19
 number_of_mark Wrong = 20
 
 -- whether the token is the mark
-abbrev pub is_mark : Mark → Item → Bool
+abbrev pub is_mark : Mark → Lexeme → Bool
 is_mark sign (word w text) = false
 is_mark sign (mark other) = nat_eq (number_of_mark sign) (number_of_mark other)

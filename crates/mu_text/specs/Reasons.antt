@@ -9,7 +9,7 @@ use Rattle.mu_tree.specs.declared.why.Why.TheVariants as why
 use Rattle.mu_text.specs.declared.excess.Measured.{Measured}
 use Rattle.mu_text.specs.declared.symbol.Word.TheVariants.{Meta}
 use Rattle.mu_text.specs.declared.symbol.Mark.TheVariants.{Semicolon, Becomes}
-use Rattle.mu_text.specs.Items.{Item, word, mark}
+use Rattle.mu_text.specs.Lexemes.{Lexeme, word, mark}
 use Rattle.mu_text.specs.Parts.{Out, chain, either, given_back, mapped, Separated, separated}
 use Rattle.mu_text.specs.SimpleParts.{AnyName, GivenWord, is_word, read_meta, read_mark, read_word, read_name}
 use Rattle.mu_text.specs.Writings.{Writing, tree_of, Short}
@@ -18,51 +18,51 @@ use Rattle.mu_text.specs.References.{SomeReferences, WithinReference, read_refer
 use Rattle.mu_text.specs.Excesses.{in_each, IsMeasured, MeasuredAll}
 
 -- what stands for a metavariable, as it is written
-pub record Abstraction : Type 0 where
+pub record AbstractionWriting : Type 0 where
   pub meta : List ℕ
   pub body : Writing
 
 -- a metavariable, `:=` and a tree
-abbrev pub IsAbstraction : List Item → Abstraction → Type 0
-IsAbstraction ts x = (b : List Item) × (ts ≡ word Meta x.meta ∷ mark Becomes ∷ b) × OneTree b x.body
+abbrev pub IsAbstraction : List Lexeme → AbstractionWriting → Type 0
+IsAbstraction ts x = (b : List Lexeme) × (ts ≡ word Meta x.meta ∷ mark Becomes ∷ b) × OneTree b x.body
 
 -- abstractions with semicolons between them, at least one
-abbrev pub SomeAbstractions : List Item → List Abstraction → Type 0
+abbrev pub SomeAbstractions : List Lexeme → List AbstractionWriting → Type 0
 SomeAbstractions ts xs = Separated Semicolon IsAbstraction ts xs
 
 -- the abstraction that is meant
-abbrev pub given_of : Abstraction → Given
+abbrev pub given_of : AbstractionWriting → Given
 given_of x = record { meta = x.meta; params = []; body = tree_of x.body }
 
 -- the trees in an abstraction
-abbrev pub trees_in_abstraction : Abstraction → List Writing
+abbrev pub trees_in_abstraction : AbstractionWriting → List Writing
 trees_in_abstraction x = x.body ∷ []
 
 -- its names are within the limit
-abbrev pub WithinAbstraction : Abstraction → Type 0
+abbrev pub WithinAbstraction : AbstractionWriting → Type 0
 WithinAbstraction x = IsName x.meta × Short x.body
 
 -- an abstraction that was read, measured
-abbrev pub StandsAbstraction : Abstraction → Measured Given → Type 0
+abbrev pub StandsAbstraction : AbstractionWriting → Measured Given → Type 0
 StandsAbstraction x m = IsMeasured trees_in_abstraction WithinAbstraction given_of x m
 
 -- abstractions that were read, measured together
-abbrev pub StandsAbstractions : List Abstraction → Measured (List Given) → Type 0
+abbrev pub StandsAbstractions : List AbstractionWriting → Measured (List Given) → Type 0
 StandsAbstractions xs m = MeasuredAll trees_in_abstraction WithinAbstraction given_of xs m
 
 -- what a line holds by, as it is written: a rule with references and abstractions
 pub data Reason : Type 0 where
-  by_rule : List ℕ → List Ref → List Abstraction → Reason
+  by_rule : List ℕ → List Ref → List AbstractionWriting → Reason
 
 -- the word and behind it the items; no token where there are none
-abbrev pub Led : {A : Type 0} → List ℕ → (List Item → List A → Type 0) → List Item → List A → Type 0
+abbrev pub Led : {A : Type 0} → List ℕ → (List Lexeme → List A → Type 0) → List Lexeme → List A → Type 0
 Led text G ts [] = ts ≡ []
-Led text G ts (x ∷ xs) = (a b : List Item) × (ts ≡ a ++ b) × GivenWord text a tt × G b (x ∷ xs)
+Led text G ts (x ∷ xs) = (a b : List Lexeme) × (ts ≡ a ++ b) × GivenWord text a tt × G b (x ∷ xs)
 
 -- `rule`, its name, and the references and abstractions where there are any
-abbrev pub IsReason : List Item → Reason → Type 0
+abbrev pub IsReason : List Lexeme → Reason → Type 0
 IsReason ts (by_rule name refs inst) =
-    (a b c d : List Item) × (ts ≡ a ++ (b ++ (c ++ d))) × GivenWord (codes "rule") a tt × AnyName b name × Led (codes "from") SomeReferences c refs × Led (codes "with") SomeAbstractions d inst
+    (a b c d : List Lexeme) × (ts ≡ a ++ (b ++ (c ++ d))) × GivenWord (codes "rule") a tt × AnyName b name × Led (codes "from") SomeReferences c refs × Led (codes "with") SomeAbstractions d inst
 
 -- what is meant; the language has no word for a translation of the rule yet
 abbrev pub why_of : Reason → Why
@@ -81,29 +81,29 @@ abbrev pub StandsReason : Reason → Measured Why → Type 0
 StandsReason x m = IsMeasured trees_in_reason WithinReason why_of x m
 
 -- an abstraction of its parts
-abbrev pub abstracting : List ℕ → Writing → Abstraction
+abbrev pub abstracting : List ℕ → Writing → AbstractionWriting
 abstracting meta body = record { meta = meta; body = body }
 
 -- reads an abstraction
-unfoldable pub read_abstraction : List Item → Out Abstraction
+unfoldable pub read_abstraction : List Lexeme → Out AbstractionWriting
 read_abstraction ts = chain read_meta (λ meta. chain (read_mark Becomes) (λ _. mapped (abstracting meta) read_tree)) ts
 
 -- reads abstractions with semicolons between them
-unfoldable pub read_abstractions : List Item → Out (List Abstraction)
+unfoldable pub read_abstractions : List Lexeme → Out (List AbstractionWriting)
 read_abstractions ts = separated Semicolon read_abstraction ts
 
 -- reads the items behind the word, where it stands
-abbrev pub led : {A : Type 0} → List ℕ → (List Item → Out (List A)) → List Item → Out (List A)
+abbrev pub led : {A : Type 0} → List ℕ → (List Lexeme → Out (List A)) → List Lexeme → Out (List A)
 led text p ts = either (is_word text) (chain (read_word text) (λ _. p)) (given_back []) ts
 
 -- reads the references of a reason
-unfoldable pub read_from : List Item → Out (List Ref)
+unfoldable pub read_from : List Lexeme → Out (List Ref)
 read_from ts = led (codes "from") read_references ts
 
 -- reads the abstractions of a reason
-unfoldable pub read_with : List Item → Out (List Abstraction)
+unfoldable pub read_with : List Lexeme → Out (List AbstractionWriting)
 read_with ts = led (codes "with") read_abstractions ts
 
 -- reads what a line holds by
-unfoldable pub read_reason : List Item → Out Reason
+unfoldable pub read_reason : List Lexeme → Out Reason
 read_reason ts = chain (read_word (codes "rule")) (λ _. chain read_name (λ name. chain read_from (λ refs. mapped (by_rule name refs) read_with))) ts

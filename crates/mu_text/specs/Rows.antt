@@ -1,7 +1,7 @@
 -- Rows of parts: the form of a line as a list of the parts that it is made of.
 -- `Part` is a crate's own type of parts, with the type of each part's values, what spells them and what reads them.
 use Rattle.std.specs.Prelude.{◌≡◌, List, [], ◌∷◌, ◌++◌}
-use Rattle.mu_text.specs.Items.{Item}
+use Rattle.mu_text.specs.Lexemes.{Lexeme}
 use Rattle.mu_text.specs.Parts.{Out, found, ◌>>=◌}
 
 -- a value of each part of the row
@@ -10,12 +10,12 @@ Values Value [] = Unit {0}
 Values Value (part ∷ parts) = Value part × Values Value parts
 
 -- a spelling of each part of the row, one behind the other
-abbrev pub SpellsRow : {Part : Type 0} (Value : Part → Type 0) → ((part : Part) → List Item → Value part → Type 0) → (parts : List Part) → List Item → Values Value parts → Type 0
+abbrev pub SpellsRow : {Part : Type 0} (Value : Part → Type 0) → ((part : Part) → List Lexeme → Value part → Type 0) → (parts : List Part) → List Lexeme → Values Value parts → Type 0
 SpellsRow Value Spells [] ts v = ts ≡ []
-SpellsRow Value Spells (part ∷ parts) ts v = (a b : List Item) × (ts ≡ a ++ b) × Spells part a v.0 × SpellsRow Value Spells parts b v.1
+SpellsRow Value Spells (part ∷ parts) ts v = (a b : List Lexeme) × (ts ≡ a ++ b) × Spells part a v.0 × SpellsRow Value Spells parts b v.1
 
 -- reads each part of the row, one behind the other
-unfoldable pub read_row : {Part : Type 0} (Value : Part → Type 0) → ((part : Part) → List Item → Out (Value part)) → (parts : List Part) → List Item → Out (Values Value parts)
+unfoldable pub read_row : {Part : Type 0} (Value : Part → Type 0) → ((part : Part) → List Lexeme → Out (Value part)) → (parts : List Part) → List Lexeme → Out (Values Value parts)
 read_row Value read [] ts = found tt ts
 read_row Value read (part ∷ parts) ts = read part ts >>= (λ x rest. read_row Value read parts rest >>= (λ xs left. found (x, xs) left))
 

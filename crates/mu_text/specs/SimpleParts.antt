@@ -9,13 +9,13 @@ use Rattle.mu_tree.specs.declared.claim.Kind.TheVariants as kind
 use Rattle.mu_text.specs.declared.symbol.Word.TheVariants.{Plain, Dotted, True, Meta, Place}
 use Rattle.mu_text.specs.declared.symbol.Mark.{Mark}
 use Rattle.mu_text.specs.declared.symbol.Mark.TheVariants.{And, Or, Not, Comma}
-use Rattle.mu_text.specs.Items.{Item, word, mark}
+use Rattle.mu_text.specs.Lexemes.{Lexeme, word, mark}
 use Rattle.mu_text.specs.Marks.{is_mark}
 use Rattle.mu_text.specs.Reading.{starts_positive}
 use Rattle.mu_text.specs.Parts.{Out, OneToken, token, Separated, separated}
 
 -- the bytes of a name of one segment; an operator's word and `true` are such names too
-abbrev pub plain_name_of : Item → Option (List ℕ)
+abbrev pub plain_name_of : Lexeme → Option (List ℕ)
 plain_name_of (word Plain text) = Some text
 plain_name_of (word True text) = Some text
 plain_name_of (mark And) = Some (codes "and")
@@ -24,12 +24,12 @@ plain_name_of (mark Not) = Some (codes "not")
 plain_name_of _ = None
 
 -- the bytes of a name
-abbrev pub name_of : Item → Option (List ℕ)
+abbrev pub name_of : Lexeme → Option (List ℕ)
 name_of (word Dotted text) = Some text
 name_of T = plain_name_of T
 
 -- the segment of a metavariable
-abbrev pub meta_of : Item → Option (List ℕ)
+abbrev pub meta_of : Lexeme → Option (List ℕ)
 meta_of (word Meta text) = Some text
 meta_of _ = None
 
@@ -47,7 +47,7 @@ abbrev pub number_of : List ℕ → Option ℕ
 number_of text = if is_number text then Some (number_from 0 text) else None
 
 -- the number of a place
-abbrev pub place_of : Item → Option ℕ
+abbrev pub place_of : Lexeme → Option ℕ
 place_of (word Place text) = number_of text
 place_of _ = None
 
@@ -61,56 +61,56 @@ has_bytes text None = false
 has_bytes text (Some name) = pointwise nat_eq name text
 
 -- whether the token is the name with these bytes
-abbrev pub is_word : List ℕ → Item → Bool
+abbrev pub is_word : List ℕ → Lexeme → Bool
 is_word text T = has_bytes text (name_of T)
 
 -- the given word
-abbrev pub word_of : List ℕ → Item → Option (Unit {0})
+abbrev pub word_of : List ℕ → Lexeme → Option (Unit {0})
 word_of text T = where_true (is_word text T) tt
 
 -- the given mark
-abbrev pub mark_of : Mark → Item → Option (Unit {0})
+abbrev pub mark_of : Mark → Lexeme → Option (Unit {0})
 mark_of sign T = where_true (is_mark sign T) tt
 
 -- a kind: `e` is an element
-abbrev pub kind_of : Item → Option Kind
+abbrev pub kind_of : Lexeme → Option Kind
 kind_of T = where_true (is_word (codes "e") T) kind.E
 
 -- a name of one segment, as a label is, with its bytes
-abbrev pub PlainName : List Item → List ℕ → Type 0
+abbrev pub PlainName : List Lexeme → List ℕ → Type 0
 PlainName ts text = OneToken plain_name_of ts text
 
 -- a name, with its bytes
-abbrev pub AnyName : List Item → List ℕ → Type 0
+abbrev pub AnyName : List Lexeme → List ℕ → Type 0
 AnyName ts text = OneToken name_of ts text
 
 -- a metavariable, with its segment
-abbrev pub MetaName : List Item → List ℕ → Type 0
+abbrev pub MetaName : List Lexeme → List ℕ → Type 0
 MetaName ts text = OneToken meta_of ts text
 
 -- a place, with its number
-abbrev pub PlaceNumber : List Item → ℕ → Type 0
+abbrev pub PlaceNumber : List Lexeme → ℕ → Type 0
 PlaceNumber ts n = OneToken place_of ts n
 
 -- the given word
-abbrev pub GivenWord : List ℕ → List Item → Unit {0} → Type 0
-GivenWord text ts x = (T : Item) × (ts ≡ T ∷ []) × (name_of T ≡ Some text)
+abbrev pub GivenWord : List ℕ → List Lexeme → Unit {0} → Type 0
+GivenWord text ts x = (T : Lexeme) × (ts ≡ T ∷ []) × (name_of T ≡ Some text)
 
 -- the given mark
-abbrev pub GivenMark : Mark → List Item → Unit {0} → Type 0
+abbrev pub GivenMark : Mark → List Lexeme → Unit {0} → Type 0
 GivenMark sign ts x = ts ≡ mark sign ∷ []
 
 -- a kind
-abbrev pub OneKind : List Item → Kind → Type 0
+abbrev pub OneKind : List Lexeme → Kind → Type 0
 OneKind ts kind.E = GivenWord (codes "e") ts tt
 OneKind ts kind.T = ⊥
 
 -- kinds between commas, at least one
-abbrev pub SomeKinds : List Item → List Kind → Type 0
+abbrev pub SomeKinds : List Lexeme → List Kind → Type 0
 SomeKinds ts kinds = Separated Comma OneKind ts kinds
 
 -- names of one segment between commas, at least one
-abbrev pub SomeNames : List Item → List (List ℕ) → Type 0
+abbrev pub SomeNames : List Lexeme → List (List ℕ) → Type 0
 SomeNames ts names = Separated Comma PlainName ts names
 
 -- a name is kept as it is spelled; where it is past its limit some other name stands for it
@@ -118,37 +118,37 @@ abbrev pub StandsName : List ℕ → List ℕ → Type 0
 StandsName text name = IsName text → name ≡ text
 
 -- reads a name of one segment
-unfoldable pub read_plain_name : List Item → Out (List ℕ)
+unfoldable pub read_plain_name : List Lexeme → Out (List ℕ)
 read_plain_name ts = token plain_name_of ts
 
 -- reads a name
-unfoldable pub read_name : List Item → Out (List ℕ)
+unfoldable pub read_name : List Lexeme → Out (List ℕ)
 read_name ts = token name_of ts
 
 -- reads a metavariable
-unfoldable pub read_meta : List Item → Out (List ℕ)
+unfoldable pub read_meta : List Lexeme → Out (List ℕ)
 read_meta ts = token meta_of ts
 
 -- reads a place
-unfoldable pub read_place : List Item → Out ℕ
+unfoldable pub read_place : List Lexeme → Out ℕ
 read_place ts = token place_of ts
 
 -- reads the given word
-unfoldable pub read_word : List ℕ → List Item → Out (Unit {0})
+unfoldable pub read_word : List ℕ → List Lexeme → Out (Unit {0})
 read_word text ts = token (word_of text) ts
 
 -- reads the given mark
-unfoldable pub read_mark : Mark → List Item → Out (Unit {0})
+unfoldable pub read_mark : Mark → List Lexeme → Out (Unit {0})
 read_mark sign ts = token (mark_of sign) ts
 
 -- reads a kind
-unfoldable pub read_kind : List Item → Out Kind
+unfoldable pub read_kind : List Lexeme → Out Kind
 read_kind ts = token kind_of ts
 
 -- reads kinds between commas
-unfoldable pub read_kinds : List Item → Out (List Kind)
+unfoldable pub read_kinds : List Lexeme → Out (List Kind)
 read_kinds ts = separated Comma read_kind ts
 
 -- reads names of one segment between commas
-unfoldable pub read_names : List Item → Out (List (List ℕ))
+unfoldable pub read_names : List Lexeme → Out (List (List ℕ))
 read_names ts = separated Comma read_plain_name ts

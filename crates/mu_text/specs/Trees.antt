@@ -1,14 +1,14 @@
 -- A tree as a part of a line.
 use Rattle.std.specs.Prelude.{List}
-use Rattle.mu_text.specs.Items.{Item}
+use Rattle.mu_text.specs.Lexemes.{Lexeme}
 use Rattle.mu_text.specs.Parts.{Out}
 use Rattle.mu_text.specs.Writings.{Writing, IsTree}
 use Rattle.mu_text.specs.Machine.{top, want, run}
 
 -- a tree in which at most 400 levels of brackets are open at once, as it is written
-abbrev pub OneTree : List Item → Writing → Type 0
+abbrev pub OneTree : List Lexeme → Writing → Type 0
 OneTree ts w = IsTree 400 ts w
 
 -- reads a tree
-unfoldable pub read_tree : List Item → Out Writing
+unfoldable pub read_tree : List Lexeme → Out Writing
 read_tree ts = run (want 400 top) ts

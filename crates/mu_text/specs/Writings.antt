@@ -1,12 +1,12 @@
 -- The trees of the language: how a tree may be written, and which tokens are such a writing.
 use Rattle.std.specs.Prelude.{◌≡◌, ℕ, ◌+◌, ◌-◌, ◌<◌, ◌≤◌, max, Bool, true, false, List, [], ◌∷◌, ◌++◌}
 use Rattle.mu_tree.specs.Names.{IsName}
-use Rattle.mu_tree.specs.declared.tree.Tree.{Tree}
-use Rattle.mu_tree.specs.declared.tree.Tree.TheVariants as tree
+use Rattle.mu_tree.specs.declared.trees.Tree.{Tree}
+use Rattle.mu_tree.specs.declared.trees.Tree.TheVariants as tree
 use Rattle.mu_text.specs.declared.symbol.Word.{Word}
 use Rattle.mu_text.specs.declared.symbol.Word.TheVariants.{Meta, Place}
 use Rattle.mu_text.specs.declared.symbol.Mark.TheVariants.{Open, Close, Comma}
-use Rattle.mu_text.specs.Items.{Item, word, mark}
+use Rattle.mu_text.specs.Lexemes.{Lexeme, word, mark}
 
 -- a way to write a tree: a name or a metavariable alone, or a name with arguments in brackets, of which there is at least one
 mutual
@@ -20,11 +20,11 @@ mutual
 
 -- its tokens; commas stand between arguments
 abbrev mutual
-  pub tokens : Writing → List Item
+  pub tokens : Writing → List Lexeme
   tokens (leaf head name) = word head name ∷ []
   tokens (apply head name ws) = word head name ∷ mark Open ∷ (tokens_of ws ++ mark Close ∷ [])
 
-  pub tokens_of : Writings → List Item
+  pub tokens_of : Writings → List Lexeme
   tokens_of (one w) = tokens w
   tokens_of (more w ws) = tokens w ++ (mark Comma ∷ tokens_of ws)
 
@@ -103,5 +103,5 @@ abbrev pub KeptAll : Writings → Type 0
 KeptAll ws = ShortAll ws × (nodes_of ws ≤ 4096) × (deep_of ws ≤ 200)
 
 -- the tokens are this writing's, and it opens at most n levels
-abbrev pub IsTree : ℕ → List Item → Writing → Type 0
+abbrev pub IsTree : ℕ → List Lexeme → Writing → Type 0
 IsTree n ts w = Fits n w × (tokens w ≡ ts)

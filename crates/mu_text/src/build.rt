@@ -2,7 +2,7 @@ ghost use Rattle.std.specs.Prelude.{◌≡◌, ◌≤◌, ◌+◌, [], ◌∷◌
 ghost use Rattle.mu_text.specs.Writings.{made as made_of};
 ghost use Rattle.mu_text.specs.Reads.{capped, Built, Added};
 
-use crate::fault::Fault;
+use crate::fault::PartFault;
 use crate::operand::{Operand, Several};
 use crate::symbol::Word;
 use mu_tree::{Name, Tree, Trees};

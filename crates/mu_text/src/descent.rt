@@ -4,7 +4,7 @@ ghost use Rattle.mu_text.specs.Reads.{ReadsTree, ReadsNamed, ReadsArguments};
 ghost use Rattle.mu_text.specs.declared.symbol.Word.{Word};
 
 use crate::build::{added, applied, leaf, none};
-use crate::fault::Fault;
+use crate::fault::PartFault;
 use crate::operand::{Operand, Several};
 use crate::parts::kept_name;
 use crate::reader::Reader;
@@ -22,10 +22,10 @@ impl<'a> Reader<'a> {
     ///
     /// # Errors
     ///
-    /// `Stop` where no tree goes on: the first token that is left then, or the end of the tokens, is the first with which
+    /// `Mismatch` where no tree goes on: the first token that is left then, or the end of the tokens, is the first with which
     /// none does. `NoMemory`, at any tokens.
     #[cycle(trees)]
-    pub fn tree(&mut self, alloc: Global, nesting: u32) -> Result<Operand, Fault>
+    pub fn tree(&mut self, alloc: Global, nesting: u32) -> Result<Operand, PartFault>
         ensures shorter { length self.new ≤ length self.old }
         ensures reads { ReadsTree nesting self.old result self.new }
     {
@@ -35,7 +35,7 @@ impl<'a> Reader<'a> {
                 self.skip();
                 self.named(alloc, nesting, head, name)
             }
-            Beginning::Nothing => Err(Fault::Stop),
+            Beginning::Nothing => Err(PartFault::Mismatch),
         }
     }
 
@@ -47,7 +47,7 @@ impl<'a> Reader<'a> {
         nesting: u32,
         head: Word,
         name: Name,
-    ) -> Result<Operand, Fault>
+    ) -> Result<Operand, PartFault>
         ensures shorter { length self.new ≤ length self.old }
         ensures reads { (text : List ℕ) → (IsName text → name ≡ text) → ReadsNamed head text nesting self.old result self.new }
     {
@@ -55,7 +55,7 @@ impl<'a> Reader<'a> {
             Opening::Nothing => Ok(leaf(alloc, head, name)),
             Opening::Arguments => {
                 if nesting == 0 {
-                    return Err(Fault::Stop);
+                    return Err(PartFault::Mismatch);
                 }
                 self.skip();
                 let args = self.arguments(alloc, nesting)?;
@@ -66,7 +66,7 @@ impl<'a> Reader<'a> {
 
     /// Reads arguments, and the bracket that closes them.
     #[cycle(trees)]
-    fn arguments(&mut self, alloc: Global, nesting: u32) -> Result<Several, Fault>
+    fn arguments(&mut self, alloc: Global, nesting: u32) -> Result<Several, PartFault>
         requires { 0 < nesting }
         ensures shorter { length self.new ≤ length self.old }
         ensures reads { (head : Word) (text : List ℕ) → ReadsArguments head text nesting self.old result self.new }
@@ -81,7 +81,7 @@ impl<'a> Reader<'a> {
                     self.skip();
                     return Ok(args);
                 }
-                Ending::Nothing => return Err(Fault::Stop),
+                Ending::Nothing => return Err(PartFault::Mismatch),
             }
         }
     }
@@ -134,8 +134,8 @@ mod tests {
                     assert!(rt; wanted == Some(operand.depth));
                     assert_eq!(rt; operand.tree.size(), 1);
                 }
-                Err(Fault::Stop) => assert!(rt; wanted.is_none()),
-                Err(Fault::NoMemory) => return Err(Fault::NoMemory.into()),
+                Err(PartFault::Mismatch) => assert!(rt; wanted.is_none()),
+                Err(PartFault::NoMemory) => return Err(PartFault::NoMemory.into()),
             }
             assert_eq!(rt; reader.len(), left);
         }

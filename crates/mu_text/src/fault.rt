@@ -3,31 +3,31 @@ use std::alloc::AllocError;
 
 /// Why no part was read.
 #[derive(Clone, Copy, Debug, PartialEq, Eq)]
-pub enum Fault {
+pub enum PartFault {
     /// No spelling goes on with the first token that is not read, or there is no such token.
-    Stop,
+    Mismatch,
     /// Memory ran out.
     NoMemory,
 }
 
-impl From<AllocError> for Fault {
+impl From<AllocError> for PartFault {
     ghost use Rattle.std.specs.Prelude.{◌≡◌};
-    ghost use Rattle.mu_text.specs.declared.fault.Fault.TheVariants.{NoMemory};
+    ghost use Rattle.mu_text.specs.declared.fault.PartFault.TheVariants.{NoMemory};
 
     ghost from_gives = { λ _ fault. fault ≡ NoMemory };
 
-    fn from(_error: AllocError) -> Fault {
-        Fault::NoMemory
+    fn from(_error: AllocError) -> PartFault {
+        PartFault::NoMemory
     }
 }
 
-impl From<NoMemory> for Fault {
+impl From<NoMemory> for PartFault {
     ghost use Rattle.std.specs.Prelude.{◌≡◌};
-    ghost use Rattle.mu_text.specs.declared.fault.Fault.TheVariants.{NoMemory};
+    ghost use Rattle.mu_text.specs.declared.fault.PartFault.TheVariants.{NoMemory};
 
     ghost from_gives = { λ _ fault. fault ≡ NoMemory };
 
-    fn from(_error: NoMemory) -> Fault {
-        Fault::NoMemory
+    fn from(_error: NoMemory) -> PartFault {
+        PartFault::NoMemory
     }
 }

@@ -15,7 +15,7 @@ mod way;
 
 pub use descent::MOST_NESTING;
 pub use excess::{Excess, Measured};
-pub use fault::Fault;
+pub use fault::PartFault;
 pub use operand::Operand;
 pub use reader::Reader;
 pub use symbol::{Mark, Sort, Word};

@@ -4,7 +4,7 @@
 ghost use Rattle.std.specs.Prelude.{◌≡◌, ◌↔◌, IsTrue, true, Some, None, IfOk, IfErr, MatchOption};
 ghost use Rattle.mu_tree.specs.Names.{is_digit as digit_test};
 ghost use Rattle.std.specs.List.{list_all};
-ghost use Rattle.mu_text.specs.declared.fault.Fault.TheVariants as fault;
+ghost use Rattle.mu_text.specs.declared.fault.PartFault.TheVariants as fault;
 ghost use Rattle.mu_text.specs.Groups.{read_argument_kinds};
 ghost use Rattle.mu_text.specs.Marks.{is_mark};
 ghost use Rattle.mu_text.specs.Parts.{Gives, Same, StandsEach, at_end, first_as, starts};
@@ -15,7 +15,7 @@ mod reasons;
 mod refs;
 mod trees;
 
-use crate::fault::Fault;
+use crate::fault::PartFault;
 use crate::reader::Reader;
 use crate::symbol::{Mark, Sort, Word};
 use crate::tokens::{MOST_DIGITS, split, starts_positive};
@@ -31,13 +31,13 @@ pub use trees::{measured_tree, tree};
 /// # Errors
 ///
 /// `NoMemory`.
-pub fn kept_name(alloc: Global, text: &[u8]) -> Result<Name, Fault>
+pub fn kept_name(alloc: Global, text: &[u8]) -> Result<Name, PartFault>
     ensures kept { IfOk result (λ name. StandsName text.now name) }
     ensures fault { IfErr result (λ error. error ≡ fault.NoMemory) }
 {
     match Name::read(alloc, text) {
         Ok(name) => Ok(name),
-        Err(NameFault::NoMemory) => Err(Fault::NoMemory),
+        Err(NameFault::NoMemory) => Err(PartFault::NoMemory),
         Err(_) => Ok(Name::placeholder(alloc)?),
     }
 }
@@ -91,9 +91,9 @@ fn name_bytes<'a>(reader: &'a Reader) -> Option<&'a [u8]>
 ///
 /// # Errors
 ///
-/// `Stop` where the first token is no such name; then no token is passed over. `NoMemory`.
+/// `Mismatch` where the first token is no such name; then no token is passed over. `NoMemory`.
 #[tactic(auto, unfolding(crate::specs::SimpleParts::read_plain_name))]
-pub fn plain_name(alloc: Global, reader: &mut Reader) -> Result<Name, Fault>
+pub fn plain_name(alloc: Global, reader: &mut Reader) -> Result<Name, PartFault>
     ensures { Gives StandsName (read_plain_name reader.old) result reader.new }
 {
     match plain_name_bytes(reader) {
@@ -102,7 +102,7 @@ pub fn plain_name(alloc: Global, reader: &mut Reader) -> Result<Name, Fault>
             reader.skip();
             Ok(name)
         }
-        None => Err(Fault::Stop),
+        None => Err(PartFault::Mismatch),
     }
 }
 
@@ -110,9 +110,9 @@ pub fn plain_name(alloc: Global, reader: &mut Reader) -> Result<Name, Fault>
 ///
 /// # Errors
 ///
-/// `Stop` where the first token is no name; then no token is passed over. `NoMemory`.
+/// `Mismatch` where the first token is no name; then no token is passed over. `NoMemory`.
 #[tactic(auto, unfolding(crate::specs::SimpleParts::read_name))]
-pub fn name(alloc: Global, reader: &mut Reader) -> Result<Name, Fault>
+pub fn name(alloc: Global, reader: &mut Reader) -> Result<Name, PartFault>
     ensures { Gives StandsName (read_name reader.old) result reader.new }
 {
     match name_bytes(reader) {
@@ -121,7 +121,7 @@ pub fn name(alloc: Global, reader: &mut Reader) -> Result<Name, Fault>
             reader.skip();
             Ok(name)
         }
-        None => Err(Fault::Stop),
+        None => Err(PartFault::Mismatch),
     }
 }
 
@@ -129,9 +129,9 @@ pub fn name(alloc: Global, reader: &mut Reader) -> Result<Name, Fault>
 ///
 /// # Errors
 ///
-/// `Stop` where the first token is no metavariable; then no token is passed over. `NoMemory`.
+/// `Mismatch` where the first token is no metavariable; then no token is passed over. `NoMemory`.
 #[tactic(auto, unfolding(crate::specs::SimpleParts::read_meta))]
-pub fn meta(alloc: Global, reader: &mut Reader) -> Result<Name, Fault>
+pub fn meta(alloc: Global, reader: &mut Reader) -> Result<Name, PartFault>
     ensures { Gives StandsName (read_meta reader.old) result reader.new }
 {
     match reader.peek() {
@@ -140,7 +140,7 @@ pub fn meta(alloc: Global, reader: &mut Reader) -> Result<Name, Fault>
             reader.skip();
             Ok(name)
         }
-        _ => Err(Fault::Stop),
+        _ => Err(PartFault::Mismatch),
     }
 }
 
@@ -148,9 +148,9 @@ pub fn meta(alloc: Global, reader: &mut Reader) -> Result<Name, Fault>
 ///
 /// # Errors
 ///
-/// `Stop` where the first token is no place; then no token is passed over.
+/// `Mismatch` where the first token is no place; then no token is passed over.
 #[tactic(auto, unfolding(crate::specs::SimpleParts::read_place))]
-pub fn place(reader: &mut Reader) -> Result<u32, Fault>
+pub fn place(reader: &mut Reader) -> Result<u32, PartFault>
     ensures { Gives Same (read_place reader.old) result reader.new }
 {
     match place_number(reader) {
@@ -158,7 +158,7 @@ pub fn place(reader: &mut Reader) -> Result<u32, Fault>
             reader.skip();
             Ok(number)
         }
-        None => Err(Fault::Stop),
+        None => Err(PartFault::Mismatch),
     }
 }
 
@@ -210,13 +210,13 @@ fn digits_value(text: &[u8]) -> u32
 ///
 /// # Errors
 ///
-/// `Stop` where the first token is another; then no token is passed over.
+/// `Mismatch` where the first token is another; then no token is passed over.
 #[tactic(auto, unfolding(crate::specs::SimpleParts::read_word))]
-pub fn word(reader: &mut Reader, text: &[u8]) -> Result<(), Fault>
+pub fn word(reader: &mut Reader, text: &[u8]) -> Result<(), PartFault>
     ensures { Gives Same (read_word text.now reader.old) result reader.new }
 {
     if !sees_word(reader, text) {
-        return Err(Fault::Stop);
+        return Err(PartFault::Mismatch);
     }
     reader.skip();
     Ok(())
@@ -226,13 +226,13 @@ pub fn word(reader: &mut Reader, text: &[u8]) -> Result<(), Fault>
 ///
 /// # Errors
 ///
-/// `Stop` where the first token is another; then no token is passed over.
+/// `Mismatch` where the first token is another; then no token is passed over.
 #[tactic(auto, unfolding(crate::specs::SimpleParts::read_mark))]
-pub fn mark(reader: &mut Reader, mark: Mark) -> Result<(), Fault>
+pub fn mark(reader: &mut Reader, mark: Mark) -> Result<(), PartFault>
     ensures { Gives Same (read_mark mark reader.old) result reader.new }
 {
     if !sees(reader, mark) {
-        return Err(Fault::Stop);
+        return Err(PartFault::Mismatch);
     }
     reader.skip();
     Ok(())
@@ -242,13 +242,13 @@ pub fn mark(reader: &mut Reader, mark: Mark) -> Result<(), Fault>
 ///
 /// # Errors
 ///
-/// `Stop` where the first token is no kind; then no token is passed over.
+/// `Mismatch` where the first token is no kind; then no token is passed over.
 #[tactic(auto, unfolding(crate::specs::SimpleParts::read_kind))]
-pub fn kind(reader: &mut Reader) -> Result<Kind, Fault>
+pub fn kind(reader: &mut Reader) -> Result<Kind, PartFault>
     ensures { Gives Same (read_kind reader.old) result reader.new }
 {
     if !sees_word(reader, b"e") {
-        return Err(Fault::Stop);
+        return Err(PartFault::Mismatch);
     }
     reader.skip();
     Ok(Kind::E)
@@ -258,13 +258,13 @@ pub fn kind(reader: &mut Reader) -> Result<Kind, Fault>
 ///
 /// # Errors
 ///
-/// `Stop` where a token is left.
-pub fn end(reader: &mut Reader) -> Result<(), Fault>
+/// `Mismatch` where a token is left.
+pub fn end(reader: &mut Reader) -> Result<(), PartFault>
     ensures { Gives Same (at_end reader.old) result reader.new }
 {
     match reader.peek() {
         None => Ok(()),
-        Some(_) => Err(Fault::Stop),
+        Some(_) => Err(PartFault::Mismatch),
     }
 }
 
@@ -272,9 +272,9 @@ pub fn end(reader: &mut Reader) -> Result<(), Fault>
 ///
 /// # Errors
 ///
-/// `Stop` at the first token with which no such list goes on. `NoMemory`.
+/// `Mismatch` at the first token with which no such list goes on. `NoMemory`.
 #[tactic(auto, unfolding(crate::specs::SimpleParts::read_kinds))]
-pub fn kinds(alloc: Global, reader: &mut Reader) -> Result<Kinds, Fault>
+pub fn kinds(alloc: Global, reader: &mut Reader) -> Result<Kinds, PartFault>
     ensures { Gives Same (read_kinds reader.old) result reader.new }
 {
     let mut kinds = Kinds::new(alloc);
@@ -292,9 +292,9 @@ pub fn kinds(alloc: Global, reader: &mut Reader) -> Result<Kinds, Fault>
 ///
 /// # Errors
 ///
-/// `Stop` at the first token with which no such list goes on. `NoMemory`.
+/// `Mismatch` at the first token with which no such list goes on. `NoMemory`.
 #[tactic(auto, unfolding(crate::specs::SimpleParts::read_names))]
-pub fn names(alloc: Global, reader: &mut Reader) -> Result<Names, Fault>
+pub fn names(alloc: Global, reader: &mut Reader) -> Result<Names, PartFault>
     ensures { Gives (StandsEach StandsName) (read_names reader.old) result reader.new }
 {
     let mut names = Names::new(alloc);
@@ -312,9 +312,9 @@ pub fn names(alloc: Global, reader: &mut Reader) -> Result<Names, Fault>
 ///
 /// # Errors
 ///
-/// `Stop` at the first token with which no such part goes on. `NoMemory`.
+/// `Mismatch` at the first token with which no such part goes on. `NoMemory`.
 #[tactic(auto, unfolding(crate::specs::Groups::read_argument_kinds))]
-pub fn argument_kinds(alloc: Global, reader: &mut Reader) -> Result<Kinds, Fault>
+pub fn argument_kinds(alloc: Global, reader: &mut Reader) -> Result<Kinds, PartFault>
     ensures { Gives Same (read_argument_kinds reader.old) result reader.new }
 {
     if !sees(reader, Mark::Open) {
@@ -347,7 +347,7 @@ mod tests {
         assert!(rt; place(&mut reader) == Ok(120));
         assert!(rt; sees(&reader, Mark::Arrow));
         assert!(rt; mark(&mut reader, Mark::Arrow).is_ok());
-        assert!(rt; end(&mut reader) == Err(Fault::Stop));
+        assert!(rt; end(&mut reader) == Err(PartFault::Mismatch));
         assert!(rt; kind(&mut reader) == Ok(Kind::E));
         assert!(rt; end(&mut reader).is_ok());
         Ok(())
@@ -359,16 +359,16 @@ mod tests {
         let line = b"a.b t 7";
         let tokens = Tokens::read(alloc, line)?;
         let mut reader = Reader::new(line, tokens.items());
-        assert!(rt; plain_name(alloc, &mut reader) == Err(Fault::Stop));
-        assert!(rt; meta(alloc, &mut reader) == Err(Fault::Stop));
-        assert!(rt; place(&mut reader) == Err(Fault::Stop));
-        assert!(rt; word(&mut reader, b"a.bc") == Err(Fault::Stop));
-        assert!(rt; mark(&mut reader, Mark::Dot) == Err(Fault::Stop));
+        assert!(rt; plain_name(alloc, &mut reader) == Err(PartFault::Mismatch));
+        assert!(rt; meta(alloc, &mut reader) == Err(PartFault::Mismatch));
+        assert!(rt; place(&mut reader) == Err(PartFault::Mismatch));
+        assert!(rt; word(&mut reader, b"a.bc") == Err(PartFault::Mismatch));
+        assert!(rt; mark(&mut reader, Mark::Dot) == Err(PartFault::Mismatch));
         assert!(rt; reader.len() == 3);
         reader.skip();
-        assert!(rt; kind(&mut reader) == Err(Fault::Stop));
+        assert!(rt; kind(&mut reader) == Err(PartFault::Mismatch));
         reader.skip();
-        assert!(rt; name(alloc, &mut reader) == Err(Fault::Stop));
+        assert!(rt; name(alloc, &mut reader) == Err(PartFault::Mismatch));
         Ok(())
     }
 

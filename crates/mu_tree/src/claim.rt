@@ -1,6 +1,6 @@
-use crate::name::{Name, Names};
+use crate::names::{Name, Names};
 use crate::sequence::Sequence;
-use crate::tree::{Tree, Trees};
+use crate::trees::{Tree, Trees};
 
 /// What an expression stands for: an element, or a type.
 #[derive(Clone, Copy, Debug, PartialEq, Eq)]

@@ -2,9 +2,9 @@ ghost use Rattle.std.specs.Prelude.{◌≡◌, IfOk};
 
 use crate::claim::{Claim, Definition, Hyp, Kind, Shape, TypedVar};
 use crate::memory::NoMemory;
-use crate::name::Name;
+use crate::names::Name;
 use crate::sequence::Sequence;
-use crate::tree::Tree;
+use crate::trees::Tree;
 use crate::why::{Given, Ref, Why};
 use std::alloc::Global;
 
@@ -39,7 +39,7 @@ impl Duplicate for Kind {
 
 impl<T: Duplicate + Drop> Duplicate for Sequence<T> {
     fn duplicate(&self, alloc: Global) -> Result<Sequence<T>, NoMemory> {
-        let mut twins = Sequence::new(alloc);
+        let mut twins = Sequence::with_capacity(alloc, self.len())?;
         for item in self.items() {
             twins.push(item.duplicate(alloc)?)?;
         }

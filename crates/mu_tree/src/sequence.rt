@@ -1,4 +1,4 @@
-ghost use Rattle.std.specs.Prelude.{◌≡◌, [], ◌∷◌, ◌++◌, ◌↔◌, length, take, IsTrue, OnOk, OnErr};
+ghost use Rattle.std.specs.Prelude.{◌≡◌, [], ◌∷◌, ◌++◌, ◌↔◌, length, take, IsTrue, IfOk, OnOk, OnErr};
 
 use crate::memory::NoMemory;
 use std::alloc::Global;
@@ -28,6 +28,19 @@ pub type Bytes = Sequence<u8>;
 pub type Numbers = Sequence<u64>;
 
 impl<T> Sequence<T> {
+    /// An empty list with room for as many items as are said.
+    ///
+    /// # Errors
+    ///
+    /// `NoMemory`.
+    pub fn with_capacity(alloc: Global, count: usize) -> Result<Sequence<T>, NoMemory>
+        ensures { IfOk result (λ list. list ≡ []) }
+    {
+        Ok(Sequence {
+            items: Vec::with_capacity(alloc, count)?,
+        })
+    }
+
     /// An empty list, which takes no memory yet.
     pub fn new(alloc: Global) -> Sequence<T>
         ensures { result ≡ [] }
@@ -83,6 +96,7 @@ impl<T: Drop> Sequence<T> {
         ensures ok { OnOk result (self.new ≡ self.old ++ item ∷ []) }
         ensures err { OnErr result (self.new ≡ self.old) }
     {
+        make_room(&mut self.items)?;
         self.items.push(item)?;
         Ok(())
     }
@@ -93,6 +107,18 @@ impl<T: Drop> Sequence<T> {
     {
         self.items.truncate(count);
     }
+}
+
+/// Makes room for one more item where there is none. A list keeps at most a quarter more room than it needs, since most
+/// lists of a store have one item or two and stay for long.
+fn make_room<T>(items: &mut Vec<T>) -> Result<(), NoMemory>
+    ensures { items.new.items ≡ items.old.items }
+{
+    let count = items.len();
+    if count == items.capacity() {
+        items.reserve_exact(count / 4 + 1)?;
+    }
+    Ok(())
 }
 
 #[cfg(test)]

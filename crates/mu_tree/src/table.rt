@@ -4,7 +4,7 @@ ghost use Rattle.std.specs.FinMap as finite;
 ghost use Rattle.std.specs.Map.Iter.{deref_pair};
 
 use crate::memory::NoMemory;
-use crate::name::{Name, Names};
+use crate::names::{Name, Names};
 use crate::sequence::Sequence;
 use std::alloc::Global;
 use std::collections::BTreeMap;
@@ -152,6 +152,17 @@ impl NameSet {
         ensures { result ≡ finite.contains_key self.now name.now }
     {
         self.marks.has(name)
+    }
+
+    /// The names of the set, in byte order.
+    ///
+    /// # Errors
+    ///
+    /// `NoMemory`.
+    pub fn names(&self, alloc: Global) -> Result<Names, NoMemory>
+        ensures { IfOk result (λ names. names ≡ finite.keys self.now) }
+    {
+        self.marks.names(alloc)
     }
 
     /// Adds a name.

@@ -1,6 +1,6 @@
-use crate::name::{Name, Names};
+use crate::names::{Name, Names};
 use crate::sequence::Sequence;
-use crate::tree::{Tree, Trees};
+use crate::trees::{Tree, Trees};
 
 /// What a line of a proof refers to.
 #[derive(Debug, Drop)]

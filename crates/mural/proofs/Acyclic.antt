@@ -5,18 +5,17 @@ use Rattle.std.specs.FinMap as finite
 use Rattle.mu_tree.specs.declared.refusal.Refusal.{Refusal}
 use Rattle.mu_decl.specs.declared.declaration.Statement.{Statement}
 use Rattle.mu_graph.specs.Circles.{IsAcyclic}
-use Rattle.mu_flat.specs.Citations.{leads}
+use Rattle.mu_flat.specs.ProofTables.{leads}
 use Rattle.mu_flat.specs.Entries.{Entries, initial}
 use Rattle.mu_flat.proofs.Validity.{valid_initial}
 use Rattle.mu_command.specs.declared.command.Command.{Command}
-use Rattle.mu_command.specs.declared.command.Command.TheVariants.{Theory, Constant, Axiom, Rule, Proof, Line, Cite, Status}
-use Rattle.mu_command.specs.declared.line.Reading.{Reading}
-use Rattle.mu_command.specs.declared.line.Reading.TheVariants as reading
+use Rattle.mu_command.specs.declared.readings.Reading.{Reading}
+use Rattle.mu_command.specs.declared.readings.Reading.TheVariants as reading
 use Rattle.mu_command.specs.Readings.{reading_of}
 use Rattle.mu_edit.specs.Changes.{refusal}
 use Rattle.mu_edit.proofs.Acyclic.{changed_acyclic}
-use Rattle.mural.specs.Replies.{answer, answered, carry_out, entries_after, is_quiet, longest_line, no_command, read_out}
-use Rattle.mural.specs.Steps.{outcome, query, step, touches_base}
+use Rattle.mural.specs.Answers.{answer, answered, carry_out, is_quiet, longest_line, no_command, outcome, queried, query, read_out, step, step_by, touches_base}
+use Rattle.mural.specs.Replies.{entries_after}
 
 -- no rule of the store leads back to itself
 abbrev IsSound : Entries → Type 0
@@ -26,20 +25,17 @@ by_refusal : (e : Entries) (c : Command) → IsSound e → (why : Option Refusal
 by_refusal e c sound None is = changed_acyclic e c sound is
 by_refusal e c sound (Some refused) is = sound
 
-queried : (e : Entries) (rule : List ℕ) → IsSound e → (found : Option Statement) → IsSound (query e rule found).entries
-queried e rule sound None = sound
-queried e rule sound (Some s) = sound
+query_sound : (e : Entries) (rule : List ℕ) → IsSound e → (found : Option Statement) → IsSound (query e rule found).entries
+query_sound e rule sound None = sound
+query_sound e rule sound (Some s) = sound
+
+stepped_by : (e : Entries) (c : Command) → IsSound e → (rule : Option (List ℕ)) → IsSound (step_by e c rule).entries
+stepped_by e c sound (Some rule) = query_sound e rule sound (finite.get e.rules rule)
+stepped_by e c sound None = by_refusal e c sound _ refl
 
 stepped : (e : Entries) (c : Command) → IsSound e → IsSound (step e c).entries
 unfolding step
-stepped e (Theory unit) sound = by_refusal e (Theory unit) sound _ refl
-stepped e (Constant unit name arguments result) sound = by_refusal e (Constant unit name arguments result) sound _ refl
-stepped e (Axiom unit rule claim) sound = by_refusal e (Axiom unit rule claim) sound _ refl
-stepped e (Rule unit rule claim) sound = by_refusal e (Rule unit rule claim) sound _ refl
-stepped e (Proof rule proof) sound = by_refusal e (Proof rule proof) sound _ refl
-stepped e (Line rule proof label block before tree) sound = by_refusal e (Line rule proof label block before tree) sound _ refl
-stepped e (Cite rule proof label why) sound = by_refusal e (Cite rule proof label why) sound _ refl
-stepped e (Status rule) sound = queried e rule sound (finite.get e.rules rule)
+stepped e c sound = stepped_by e c sound (queried c)
 
 carried : (e : Entries) (c : Command) → IsSound e → IsSound (carry_out e c).entries
 carried e c sound = elim (touches_base c) as (λ b. IsSound (if b then no_command e 1 else answered (step e c)).entries) [ true ↦ sound | false ↦ stepped e c sound ]

@@ -2,14 +2,14 @@
 use Rattle.std.proofs.Common.{◌≡◌, inl, inr, ◌≤◌, ◌<◌, ℕ, Bool, true, false, List, [], ◌∷◌, ◌++◌, length, take, drop, refl, sym, ◌∙◌, ap, subst, Option, Some, arith, append_assoc, take-append-drop, length-append}
 use Rattle.std.proofs.lemmas.List.{append-nil, take-take}
 use Rattle.std.specs.Io.KnownBytes.{prepend_known, IsAtEnd}
-use Rattle.mu_outside.specs.Seen.{Seen, Rose}
+use Rattle.mu_outside.specs.Outsides.{Observed, Rose}
 use Rattle.mural.specs.Lines.{whole_lines, lines, due_lines, most_input}
 use Rattle.mu_flat.specs.Entries.{Entries, initial}
 use Rattle.mural.specs.Replies.{replies, some_refused, replies_to}
-use Rattle.mural.specs.Served.{Served, TellsFront}
-use Rattle.mural.specs.Ended.{Ended, HasRisen, IsComplete, IsDone, of_stop, of_refused}
-use Rattle.mural.specs.declared.reader.Stop.{Stop}
-use Rattle.mural.specs.declared.reader.Stop.TheVariants as stop
+use Rattle.mural.specs.Interpreter.{Served, TellsFront}
+use Rattle.mural.specs.Runs.{Ended, HasRisen, IsComplete, IsDone, of_stop, of_refused}
+use Rattle.mural.specs.declared.interpreter.Stop.{Stop}
+use Rattle.mural.specs.declared.interpreter.Stop.TheVariants as stop
 use Rattle.mural.specs.declared.status.Status.{Status}
 use Rattle.mural.specs.declared.status.Status.TheVariants.{AllAccepted, SomeRefused, Usage, ReadFault, TellFault, NoMemory, InputTooLong}
 use Rattle.mural.proofs.Known.{prepend_twice, whole_input, nothing_left}
@@ -70,16 +70,16 @@ input_ends left0 left1 left2 bytes buf input n before is end now =
 pub all_due : (input bytes : List ℕ) → input ≡ bytes → length bytes ≤ most_input → replies initial (lines bytes) ≡ replies_to input
 all_due input bytes same le = ap (replies initial) (sym (ap due_lines same ∙ due_short bytes le))
 
-pub ended_stop : (input : List ℕ) (start : Option (List ℕ)) (now : Seen) (why : Stop) (status : Status) → status ≡ of_stop why → TellsFront start (due_lines input) now.told → Ended input start now status
+pub ended_stop : (input : List ℕ) (start : Option (List ℕ)) (now : Observed) (why : Stop) (status : Status) → status ≡ of_stop why → TellsFront start (due_lines input) now.told → Ended input start now status
 ended_stop input start now stop.TellFault status is front = subst (Ended input start now) (sym is) front
 ended_stop input start now stop.NoMemory status is front = subst (Ended input start now) (sym is) front
 
-pub ended_done : (input : List ℕ) (start : Option (List ℕ)) (now : Seen) (refused : Bool) (status : Status) → status ≡ of_refused refused → IsDone input start now → refused ≡ some_refused (replies_to input) → Ended input start now status
+pub ended_done : (input : List ℕ) (start : Option (List ℕ)) (now : Observed) (refused : Bool) (status : Status) → status ≡ of_refused refused → IsDone input start now → refused ≡ some_refused (replies_to input) → Ended input start now status
 ended_done input start now true status is done some = subst (Ended input start now) (sym is) (done, sym some)
 ended_done input start now false status is done some = subst (Ended input start now) (sym is) (done, sym some)
 
 -- where no call failed, the input alone says how a run ends
-pub complete : (input : List ℕ) (old now : Seen) (status : Status) → (status ≡ Usage → ⊥) → Ended input old.told now status → HasRisen old now status
+pub complete : (input : List ℕ) (old now : Observed) (status : Status) → (status ≡ Usage → ⊥) → Ended input old.told now status → HasRisen old now status
     → (Rose old.read_faults now.read_faults → ⊥) → (Rose old.tell_faults now.tell_faults → ⊥) → IsComplete input status
 complete input old now AllAccepted used ended risen read tell = record { short = λ le. inl refl; long = λ lt. absurd (omega (arith, ended.0.within, lt)) }
 complete input old now SomeRefused used ended risen read tell = record { short = λ le. inr (inl refl); long = λ lt. absurd (omega (arith, ended.0.within, lt)) }

@@ -2,7 +2,7 @@
 use Rattle.std.proofs.Common.{◌≡◌, ◌+◌, ℕ, List, [], ◌++◌, take, drop, refl, sym, ◌∙◌, ap, Option, None, Some, arith, append_assoc, take-append-drop}
 use Rattle.std.proofs.lemmas.List.{append-nil, take-take, drop-take}
 use Rattle.std.specs.Io.KnownBytes.{append_known, prepend_known, IsAtEnd}
-use Rattle.mu_outside.specs.Seen.{Seen, KeepsButTold}
+use Rattle.mu_outside.specs.Outsides.{Observed, KeepsButTold}
 
 pub append_twice : (known : Option (List ℕ)) (xs ys : List ℕ) → append_known (append_known known xs) ys ≡ append_known known (xs ++ ys)
 append_twice None xs ys = refl
@@ -33,7 +33,7 @@ told_more told0 told1 told2 bytes piece at n is so_far more =
     more ∙ ap (λ (l : List ℕ). append_known told1 (take n l)) is ∙ ap (λ (k : Option (List ℕ)). append_known k (take n (drop at bytes))) so_far
     ∙ append_twice told0 _ _ ∙ ap (λ (l : List ℕ). append_known told0 l) (take_add bytes at n)
 
-pub keeps_on : (old mid new : Seen) → KeepsButTold old mid → KeepsButTold mid new → KeepsButTold old new
+pub keeps_on : (old mid new : Observed) → KeepsButTold old mid → KeepsButTold mid new → KeepsButTold old new
 keeps_on old mid new a b = record { left = b.left ∙ a.left; read_faults = b.read_faults ∙ a.read_faults }
 
 -- the whole input, from what was taken of it

@@ -1,4 +1,5 @@
 mod Acyclic
+mod Commands
 mod Ends
 mod Known
 mod Lawful

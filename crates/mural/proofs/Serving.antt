@@ -9,8 +9,9 @@ use Rattle.std.proofs.lemmas.List.Folds.{list_any-append}
 use Rattle.std.specs.Io.KnownBytes.{append_known}
 use Rattle.mural.specs.Lines.{is_line_feed, whole_lines, unfinished, last_line, lines}
 use Rattle.mu_flat.specs.Entries.{Entries, initial}
-use Rattle.mural.specs.Replies.{Answer, no_command, longest_line, answer, replies, entries_after, told_for, told_bytes, refuses, some_refused}
-use Rattle.mural.specs.Served.{Served, IsFront, TellsFront, kept_length}
+use Rattle.mural.specs.Answers.{Answer, no_command, longest_line, answer}
+use Rattle.mural.specs.Replies.{replies, entries_after, told_for, told_bytes, refuses, some_refused}
+use Rattle.mural.specs.Interpreter.{Served, IsFront, TellsFront, kept_length}
 use Rattle.mural.specs.declared.reply.Reply.{Reply}
 use Rattle.mural.proofs.Known.{append_twice}
 use Rattle.mural.proofs.Pieces.{whole_lines_feed, unfinished_feed, whole_lines_byte, unfinished_byte, whole_lines-append}

@@ -5,7 +5,7 @@ use Rattle.mu_command.specs.Plain.{HasPlainNames}
 use Rattle.mu_command.specs.declared.command.Command.{Command}
 use Rattle.mu_command.specs.declared.command.Command.TheVariants.{Theory, Constant, Axiom, Rule, Proof, Line, Cite, Status}
 use Rattle.mu_edit.specs.Changes.{IsStorable}
-use Rattle.mural.specs.Steps.{touches_base}
+use Rattle.mural.specs.Answers.{touches_base}
 
 neither : (a b : Bool) → (a || b) ≡ false → b ≡ false
 neither true b e = cc

@@ -1,13 +1,13 @@
 -- What holds of the definitions that the replies are stated by.
 use Rattle.std.specs.Prelude.{◌≡◌, ℕ, List}
 use Rattle.mu_graph.specs.Circles.{IsAcyclic}
-use Rattle.mu_flat.specs.Citations.{leads}
+use Rattle.mu_flat.specs.ProofTables.{leads}
 use Rattle.mu_flat.specs.Entries.{initial}
-use Rattle.mu_flat.specs.Laws.{CirclesAreExact}
+use Rattle.mu_flat.specs.Circles.{CirclesAreExact}
 use Rattle.mu_status.specs.Statuses.{AreStatuses}
 use Rattle.mu_text.specs.Spacing.{spaced}
 use Rattle.mu_command.specs.declared.command.Command.{Command}
-use Rattle.mu_command.specs.declared.line.Reading.TheVariants as line_reading
+use Rattle.mu_command.specs.declared.readings.Reading.TheVariants as line_reading
 use Rattle.mu_command.specs.Readings.{IsRead, reading_of}
 use Rattle.mural.specs.Replies.{entries_after}
 

@@ -1,6 +1,8 @@
+pub mod Answers
+pub mod Interpreter
+pub mod Laws
 pub mod Lines
 pub mod Replies
-pub mod Served
-pub mod Steps
-pub mod Ended
-pub mod Laws
+pub mod Runs
+pub mod Status
+pub mod Wording

@@ -1,16 +1,16 @@
 //! The program `mural`: reads commands from standard input, a line each, and prints a reply to each.
 #![tactic(auto)]
 
-mod answering;
-mod reader;
+mod answers;
+mod interpreter;
 mod reply;
-mod running;
+mod runs;
 mod status;
 mod telling;
 mod wording;
 
 use mu_host::Host;
-use running::run;
+use runs::run;
 use status::Status;
 use std::io::ErrorKind;
 use std::process::ExitCode;

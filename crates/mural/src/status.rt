@@ -23,7 +23,7 @@ pub enum Status {
 
 /// Why a run gave up, in words for a person.
 #[derive(Debug, Drop, Error)]
-pub enum Fault {
+pub enum RunFault {
     #[error("usage: mural < COMMANDS")]
     Usage,
     #[error("the input could not be read")]
@@ -37,7 +37,7 @@ pub enum Fault {
 }
 
 impl Status {
-    ghost use Rattle.mural.specs.Ended.{code_of};
+    ghost use Rattle.mural.specs.Status.{code_of};
 
     /// The exit status of the program.
     pub fn code(self) -> u8
@@ -55,16 +55,50 @@ impl Status {
     }
 
     /// What is said of it on standard error: nothing where the input was read to its end.
-    pub fn fault(self) -> Option<Fault>
+    pub fn fault(self) -> Option<RunFault>
         ensures { IsSome result ↔ (2 ≤ code_of self) }
     {
         match self {
             Status::AllAccepted | Status::SomeRefused => None,
-            Status::Usage => Some(Fault::Usage),
-            Status::ReadFault => Some(Fault::Read),
-            Status::TellFault => Some(Fault::Tell),
-            Status::NoMemory => Some(Fault::NoMemory),
-            Status::InputTooLong => Some(Fault::InputTooLong),
+            Status::Usage => Some(RunFault::Usage),
+            Status::ReadFault => Some(RunFault::Read),
+            Status::TellFault => Some(RunFault::Tell),
+            Status::NoMemory => Some(RunFault::NoMemory),
+            Status::InputTooLong => Some(RunFault::InputTooLong),
         }
     }
+}
+
+#[cfg(test)]
+mod tests {
+    use super::*;
+    use std::test::Fail;
+
+    #[test]
+    fn says_why_a_run_gave_up(rt: HostRuntime) -> Result<(), Fail> {
+        let mut said = String::new(rt.alloc());
+        for status in [
+            Status::AllAccepted,
+            Status::SomeRefused,
+            Status::Usage,
+            Status::ReadFault,
+            Status::TellFault,
+            Status::NoMemory,
+            Status::InputTooLong,
+        ] {
+            if let Some(fault) = status.fault() {
+                writeln!(said, "{fault}")?;
+            }
+        }
+        assert!(rt; said.as_str() == SAID);
+        Ok(())
+    }
+
+    const SAID: &str = "\
+usage: mural < COMMANDS
+the input could not be read
+the output could not be written
+out of memory
+the input has more than 268435456 bytes
+";
 }

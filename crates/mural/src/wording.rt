@@ -1,8 +1,8 @@
 ghost use Rattle.std.specs.Prelude.{◌≡◌, IfOk};
-ghost use Rattle.mural.specs.Steps.{told_as, is_refusal as refusal_test, refusal_words};
+ghost use Rattle.mural.specs.Wording.{told_as, is_refusal as refusal_test, limit_word, refusal_words};
 
 use crate::reply::Reply;
-use mu_tree::{Bytes, Count, NoMemory, Refusal};
+use mu_tree::{Bytes, CountWord, LimitWord, NoMemory, Refusal};
 use std::alloc::Global;
 
 /// The bytes that tell a reply.
@@ -33,6 +33,10 @@ fn refusal_text(alloc: Global, refusal: &Refusal) -> Result<Bytes, NoMemory>
             text.extend_from_slice(b"syntax ")?;
             text.extend_from_slice(column.to_string(alloc)?.as_bytes())?;
         }
+        Refusal::Limit(limit) => {
+            text.extend_from_slice(b"limit ")?;
+            text.extend_from_slice(limit_text(*limit))?;
+        }
         Refusal::Unknown(name) => {
             text.extend_from_slice(b"unknown ")?;
             text.extend_from_slice(name.bytes())?;
@@ -45,9 +49,20 @@ fn refusal_text(alloc: Global, refusal: &Refusal) -> Result<Bytes, NoMemory>
             text.extend_from_slice(b"circle ")?;
             text.extend_from_slice(name.bytes())?;
         }
-        Refusal::TooMany(Count::Items) => text.extend_from_slice(b"too-many items")?,
+        Refusal::TooMany(CountWord::Items) => text.extend_from_slice(b"too-many items")?,
     }
     Ok(Bytes::from_vec(text))
+}
+
+fn limit_text(limit: LimitWord) -> &'static [u8]
+    ensures { result.now ≡ limit_word limit }
+{
+    match limit {
+        LimitWord::Name => b"name",
+        LimitWord::Nodes => b"nodes",
+        LimitWord::Depth => b"depth",
+        LimitWord::Text => b"text",
+    }
 }
 
 /// Whether the reply is a refusal.

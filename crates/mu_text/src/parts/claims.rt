@@ -3,7 +3,7 @@ ghost use Rattle.mu_text.specs.Parts.{Gives, starts};
 ghost use Rattle.mu_text.specs.Claims.{Hypothesis, StandsHypothesis, StandsHypotheses, StandsClaim, goes_on, read_hypothesis, read_hypotheses, read_concluded, read_after, read_claim};
 
 use crate::excess::Measured;
-use crate::fault::Fault;
+use crate::fault::PartFault;
 use crate::parts::trees::measured_tree;
 use crate::parts::{mark, sees};
 use crate::reader::Reader;
@@ -15,9 +15,9 @@ use std::alloc::Global;
 ///
 /// # Errors
 ///
-/// `Stop` at the first token with which no claim goes on. `NoMemory`.
+/// `Mismatch` at the first token with which no claim goes on. `NoMemory`.
 #[tactic(auto, unfolding(crate::specs::Claims::read_claim))]
-pub fn claim(alloc: Global, reader: &mut Reader) -> Result<Measured<Claim>, Fault>
+pub fn claim(alloc: Global, reader: &mut Reader) -> Result<Measured<Claim>, PartFault>
     ensures { Gives StandsClaim (read_claim reader.old) result reader.new }
 {
     let first = hypothesis(alloc, reader)?;
@@ -29,7 +29,7 @@ fn after_first(
     alloc: Global,
     reader: &mut Reader,
     first: Measured<Hyp>,
-) -> Result<Measured<Claim>, Fault>
+) -> Result<Measured<Claim>, PartFault>
     ensures { (h : Hypothesis) → StandsHypothesis h first → Gives StandsClaim (read_after h reader.old) result reader.new }
 {
     if goes_on(reader) {
@@ -44,7 +44,7 @@ fn after_first(
             },
             excess,
         }),
-        Hyp::Sequent { .. } => Err(Fault::Stop),
+        Hyp::Sequent { .. } => Err(PartFault::Mismatch),
     }
 }
 
@@ -59,7 +59,7 @@ fn concluded(
     alloc: Global,
     reader: &mut Reader,
     first: Measured<Hyp>,
-) -> Result<Measured<Claim>, Fault>
+) -> Result<Measured<Claim>, PartFault>
     ensures { (h : Hypothesis) → StandsHypothesis h first → Gives StandsClaim (read_concluded h reader.old) result reader.new }
 {
     let hyps = hypotheses(alloc, reader, first)?;
@@ -79,7 +79,7 @@ fn hypotheses(
     alloc: Global,
     reader: &mut Reader,
     first: Measured<Hyp>,
-) -> Result<Measured<Hyps>, Fault>
+) -> Result<Measured<Hyps>, PartFault>
     ensures { (h : Hypothesis) → StandsHypothesis h first → Gives StandsHypotheses (read_hypotheses h reader.old) result reader.new }
 {
     let mut excess = first.excess;
@@ -99,7 +99,7 @@ fn hypotheses(
 
 /// Reads a hypothesis: a tree.
 #[tactic(auto, unfolding(crate::specs::Claims::read_hypothesis))]
-fn hypothesis(alloc: Global, reader: &mut Reader) -> Result<Measured<Hyp>, Fault>
+fn hypothesis(alloc: Global, reader: &mut Reader) -> Result<Measured<Hyp>, PartFault>
     ensures { Gives StandsHypothesis (read_hypothesis reader.old) result reader.new }
 {
     let tree = measured_tree(alloc, reader)?;
@@ -137,7 +137,7 @@ mod tests {
                     assert_eq!(rt; claim.value.conclusion.size(), *size);
                     assert!(rt; !claim.excess.nodes && !claim.excess.depth);
                 }
-                (Err(Fault::Stop), None) => (),
+                (Err(PartFault::Mismatch), None) => (),
                 _ => assert!(rt; false),
             }
             assert_eq!(rt; reader.len(), *left);

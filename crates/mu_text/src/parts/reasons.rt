@@ -4,7 +4,7 @@ ghost use Rattle.mu_text.specs.References.{StandsReference};
 ghost use Rattle.mu_text.specs.Reasons.{StandsAbstraction, StandsAbstractions, StandsReason, read_abstraction, read_abstractions, read_from, read_with, read_reason};
 
 use crate::excess::{Excess, Measured};
-use crate::fault::Fault;
+use crate::fault::PartFault;
 use crate::parts::trees::measured_tree;
 use crate::parts::{mark, meta, name, references, sees, sees_word, word};
 use crate::reader::Reader;
@@ -16,9 +16,9 @@ use std::alloc::Global;
 ///
 /// # Errors
 ///
-/// `Stop` at the first token with which no abstraction goes on. `NoMemory`.
+/// `Mismatch` at the first token with which no abstraction goes on. `NoMemory`.
 #[tactic(auto, unfolding(crate::specs::Reasons::read_abstraction))]
-pub fn abstraction(alloc: Global, reader: &mut Reader) -> Result<Measured<Given>, Fault>
+pub fn abstraction(alloc: Global, reader: &mut Reader) -> Result<Measured<Given>, PartFault>
     ensures { Gives StandsAbstraction (read_abstraction reader.old) result reader.new }
 {
     let meta = meta(alloc, reader)?;
@@ -38,9 +38,9 @@ pub fn abstraction(alloc: Global, reader: &mut Reader) -> Result<Measured<Given>
 ///
 /// # Errors
 ///
-/// `Stop` at the first token with which no such list goes on. `NoMemory`.
+/// `Mismatch` at the first token with which no such list goes on. `NoMemory`.
 #[tactic(auto, unfolding(crate::specs::Reasons::read_abstractions))]
-pub fn abstractions(alloc: Global, reader: &mut Reader) -> Result<Measured<Inst>, Fault>
+pub fn abstractions(alloc: Global, reader: &mut Reader) -> Result<Measured<Inst>, PartFault>
     ensures { Gives StandsAbstractions (read_abstractions reader.old) result reader.new }
 {
     let mut inst = Inst::new(alloc);
@@ -61,7 +61,7 @@ pub fn abstractions(alloc: Global, reader: &mut Reader) -> Result<Measured<Inst>
 
 /// Reads `from` and references, where the word stands.
 #[tactic(auto, unfolding(crate::specs::Reasons::read_from))]
-fn from_references(alloc: Global, reader: &mut Reader) -> Result<Refs, Fault>
+fn from_references(alloc: Global, reader: &mut Reader) -> Result<Refs, PartFault>
     ensures { Gives (StandsEach StandsReference) (read_from reader.old) result reader.new }
 {
     if !sees_word(reader, b"from") {
@@ -73,7 +73,7 @@ fn from_references(alloc: Global, reader: &mut Reader) -> Result<Refs, Fault>
 
 /// Reads `with` and abstractions, where the word stands.
 #[tactic(auto, unfolding(crate::specs::Reasons::read_with))]
-fn with_abstractions(alloc: Global, reader: &mut Reader) -> Result<Measured<Inst>, Fault>
+fn with_abstractions(alloc: Global, reader: &mut Reader) -> Result<Measured<Inst>, PartFault>
     ensures { Gives StandsAbstractions (read_with reader.old) result reader.new }
 {
     if !sees_word(reader, b"with") {
@@ -94,9 +94,9 @@ fn with_abstractions(alloc: Global, reader: &mut Reader) -> Result<Measured<Inst
 ///
 /// # Errors
 ///
-/// `Stop` at the first token with which no reason goes on. `NoMemory`.
+/// `Mismatch` at the first token with which no reason goes on. `NoMemory`.
 #[tactic(auto, unfolding(crate::specs::Reasons::read_reason))]
-pub fn reason(alloc: Global, reader: &mut Reader) -> Result<Measured<Why>, Fault>
+pub fn reason(alloc: Global, reader: &mut Reader) -> Result<Measured<Why>, PartFault>
     ensures { Gives StandsReason (read_reason reader.old) result reader.new }
 {
     word(reader, b"rule")?;
@@ -133,7 +133,7 @@ mod tests {
         let alloc = rt.alloc();
         let lines: [(&[u8], Option<(usize, usize)>, usize); 9] = [
             (b"rule r", Some((0, 0)), 0),
-            (b"rule a.b.c from x, y #2, #1", Some((3, 0)), 0),
+            (b"rule a.b.c from x, y, #1", Some((3, 0)), 0),
             (b"rule r with ?p := q", Some((0, 1)), 0),
             (
                 b"rule r from x with ?p := q; ?q := f(x, ?m)",
@@ -151,7 +151,7 @@ mod tests {
             let mut reader = Reader::new(line, tokens.items());
             match (reason(alloc, &mut reader), wanted) {
                 (Ok(read), Some(_)) => assert!(rt; counts(&read.value) == *wanted),
-                (Err(Fault::Stop), None) => (),
+                (Err(PartFault::Mismatch), None) => (),
                 _ => assert!(rt; false),
             }
             assert_eq!(rt; reader.len(), *left);

@@ -2,7 +2,7 @@ ghost use Rattle.std.specs.Prelude.{◌≡◌};
 ghost use Rattle.mu_text.specs.Parts.{Gives, StandsEach, starts};
 ghost use Rattle.mu_text.specs.References.{StandsReference, is_place_token, read_reference, read_references};
 
-use crate::fault::Fault;
+use crate::fault::PartFault;
 use crate::parts::{place, plain_name, sees};
 use crate::reader::Reader;
 use crate::symbol::{Mark, Sort, Word};
@@ -15,13 +15,13 @@ fn sees_place(reader: &Reader) -> bool
     reader.peek() == Some(Sort::Word(Word::Place))
 }
 
-/// Reads a reference: a label, a label and a place, or a place.
+/// Reads a reference: a label or a place.
 ///
 /// # Errors
 ///
-/// `Stop` where the first token is neither a label nor a place; then no token is passed over. `NoMemory`.
+/// `Mismatch` where the first token is neither a label nor a place; then no token is passed over. `NoMemory`.
 #[tactic(auto, unfolding(crate::specs::References::read_reference, crate::specs::SimpleParts::read_plain_name, crate::specs::SimpleParts::read_place))]
-pub fn reference(alloc: Global, reader: &mut Reader) -> Result<Ref, Fault>
+pub fn reference(alloc: Global, reader: &mut Reader) -> Result<Ref, PartFault>
     ensures { Gives StandsReference (read_reference reader.old) result reader.new }
 {
     if sees_place(reader) {
@@ -29,20 +29,16 @@ pub fn reference(alloc: Global, reader: &mut Reader) -> Result<Ref, Fault>
         return Ok(Ref::Hypothesis(number));
     }
     let label = plain_name(alloc, reader)?;
-    if !sees_place(reader) {
-        return Ok(Ref::Item(label));
-    }
-    let number = place(reader)?;
-    Ok(Ref::Assumption(label, number))
+    Ok(Ref::Item(label))
 }
 
 /// Reads references between commas, at least one.
 ///
 /// # Errors
 ///
-/// `Stop` at the first token with which no such list goes on. `NoMemory`.
+/// `Mismatch` at the first token with which no such list goes on. `NoMemory`.
 #[tactic(auto, unfolding(crate::specs::References::read_references))]
-pub fn references(alloc: Global, reader: &mut Reader) -> Result<Refs, Fault>
+pub fn references(alloc: Global, reader: &mut Reader) -> Result<Refs, PartFault>
     ensures { Gives (StandsEach StandsReference) (read_references reader.old) result reader.new }
 {
     let mut refs = Refs::new(alloc);
@@ -65,7 +61,7 @@ mod tests {
     fn is(reference: &Ref, label: &[u8], number: u32) -> bool {
         match reference {
             Ref::Item(name) => name.bytes() == label && number == 0,
-            Ref::Assumption(name, place) => name.bytes() == label && *place == number,
+            Ref::Assumption(..) => false,
             Ref::Hypothesis(place) => label.is_empty() && *place == number,
         }
     }
@@ -75,9 +71,9 @@ mod tests {
         let alloc = rt.alloc();
         let lines: [(&[u8], Option<(&[u8], u32)>, usize); 7] = [
             (b"a1 with", Some((b"a1", 0)), 1),
-            (b"a1 #2 #3", Some((b"a1", 2)), 1),
-            (b"#12, a, b #3", Some((b"b", 3)), 0),
-            (b"b #3, and", Some((b"and", 0)), 0),
+            (b"a1 #2", Some((b"a1", 0)), 1),
+            (b"a, #12", Some((b"", 12)), 0),
+            (b"#3, and", Some((b"and", 0)), 0),
             (b"a,", None, 0),
             (b"a, ,", None, 1),
             (b"a.b", None, 1),
@@ -90,7 +86,7 @@ mod tests {
                     [.., last] => assert!(rt; is(last, label, *number)),
                     [] => assert!(rt; false),
                 },
-                (Err(Fault::Stop), None) => (),
+                (Err(PartFault::Mismatch), None) => (),
                 _ => assert!(rt; false),
             }
             assert_eq!(rt; reader.len(), *left);

@@ -8,7 +8,7 @@ ghost use Rattle.mu_text.specs.Excesses.{StandsTree};
 use crate::build::{MOST_DEPTH, MOST_NODES};
 use crate::descent::MOST_NESTING;
 use crate::excess::{Excess, Measured};
-use crate::fault::Fault;
+use crate::fault::PartFault;
 use crate::operand::Operand;
 use crate::reader::Reader;
 use mu_tree::Tree;
@@ -18,15 +18,15 @@ use std::alloc::Global;
 ///
 /// # Errors
 ///
-/// `Stop` at the first token with which no tree goes on. `NoMemory`.
-pub fn tree(alloc: Global, reader: &mut Reader) -> Result<Operand, Fault>
+/// `Mismatch` at the first token with which no tree goes on. `NoMemory`.
+pub fn tree(alloc: Global, reader: &mut Reader) -> Result<Operand, PartFault>
     ensures { Gives Stands (read_tree reader.old) result reader.new }
 {
     reader.tree(alloc, MOST_NESTING)
 }
 
 /// Reads a tree, and says which limits it passes.
-pub fn measured_tree(alloc: Global, reader: &mut Reader) -> Result<Measured<Tree>, Fault>
+pub fn measured_tree(alloc: Global, reader: &mut Reader) -> Result<Measured<Tree>, PartFault>
     ensures { Gives StandsTree (read_tree reader.old) result reader.new }
 {
     let operand = tree(alloc, reader)?;

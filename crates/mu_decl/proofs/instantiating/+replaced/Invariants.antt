@@ -1,5 +1,5 @@
 use Rattle.std.proofs.Common.{◌≡◌, take, map}
-use Rattle.mu_decl.specs.Instantiated.{instantiated}
+use Rattle.mu_decl.specs.Instantiating.{instantiated}
 use Rattle.mu_decl.proofs.instantiating.+replaced.Given as goal
 
 abbrev pub invariant-replaced_all-loop-tree : goal.invariant-replaced_all-loop-tree

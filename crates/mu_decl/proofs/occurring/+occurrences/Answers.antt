@@ -1,5 +1,5 @@
 use Rattle.std.proofs.Common.{◌+◌, map, drop, arith}
-use Rattle.mu_decl.specs.WellFormed.{occurrences, spread, kind_at}
+use Rattle.mu_decl.specs.Formation.{occurrences, spread, kind_at}
 use Rattle.mu_decl.proofs.Rests.{spread_rest, added}
 use Rattle.mu_decl.proofs.occurring.+occurrences.Goals as goal
 

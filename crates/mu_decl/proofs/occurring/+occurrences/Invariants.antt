@@ -1,5 +1,5 @@
 use Rattle.std.proofs.Common.{◌≡◌, ◌++◌, drop, map}
-use Rattle.mu_decl.specs.WellFormed.{occurrences, spread}
+use Rattle.mu_decl.specs.Formation.{occurrences, spread}
 use Rattle.mu_decl.proofs.occurring.+occurrences.Given as goal
 
 abbrev pub invariant-spread-loop-i : goal.invariant-spread-loop-i

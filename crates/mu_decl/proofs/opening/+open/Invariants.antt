@@ -1,5 +1,5 @@
 use Rattle.std.proofs.Common.{◌≡◌, take, map}
-use Rattle.mu_decl.specs.Opened.{open_under}
+use Rattle.mu_decl.specs.Opening.{open_under}
 use Rattle.mu_decl.proofs.opening.+open.Given as goal
 
 abbrev pub invariant-open_all-loop-tree : goal.invariant-open_all-loop-tree

@@ -1,5 +1,5 @@
 use Rattle.std.proofs.Common.{◌≡◌, take, map}
-use Rattle.mu_decl.specs.Opened.{shift_under}
+use Rattle.mu_decl.specs.Opening.{shift_under}
 use Rattle.mu_decl.proofs.opening.+shift.Given as goal
 
 abbrev pub invariant-shift_all-loop-tree : goal.invariant-shift_all-loop-tree

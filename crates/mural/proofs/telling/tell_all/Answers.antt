@@ -12,7 +12,7 @@ loop-at-preserved g c =
     let is : piece ≡ drop at bytes = take_rest bytes at in
     record {
       within = omega (arith, c.in_ok-at.ensures.output.1, ap length is, length-drop at bytes, i.within);
-      told = told_more (g.O.Outside.seen c.args.out.now).told (g.O.Outside.seen c.loop-at.out).told (g.O.Outside.seen c.tell.new.self).told bytes piece at c.in_ok-at.field-0 is i.told c.in_ok-at.ensures.output.2;
-      rest = keeps_on (g.O.Outside.seen c.args.out.now) (g.O.Outside.seen c.loop-at.out) (g.O.Outside.seen c.tell.new.self) i.rest c.tell.ensures.rest;
+      told = told_more (g.O.Outside.observed c.args.out.now).told (g.O.Outside.observed c.loop-at.out).told (g.O.Outside.observed c.tell.new.self).told bytes piece at c.in_ok-at.field-0 is i.told c.in_ok-at.ensures.output.2;
+      rest = keeps_on (g.O.Outside.observed c.args.out.now) (g.O.Outside.observed c.loop-at.out) (g.O.Outside.observed c.tell.new.self) i.rest c.tell.ensures.rest;
       later = omega (arith, i.later, c.tell.ensures.cause.later);
     }

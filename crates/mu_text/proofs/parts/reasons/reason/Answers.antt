@@ -2,7 +2,7 @@ use Rattle.std.specs.Prelude.{codes, Ok}
 use Rattle.mu_text.specs.Parts.{chain, mapped}
 use Rattle.mu_text.specs.SimpleParts.{read_word, read_name}
 use Rattle.mu_text.specs.Reasons.{by_rule, read_from, read_with, read_reason, StandsReason}
-use Rattle.mu_text.proofs.Given.{and_then, kept_made}
+use Rattle.mu_text.proofs.Chains.{and_then, kept_made}
 use Rattle.mu_text.proofs.ReasonValues.{reason_stands}
 use Rattle.mu_text.proofs.parts.reasons.reason.Goals as goal
 

@@ -1,4 +1,4 @@
-use Rattle.mu_text.proofs.Given.{kept}
+use Rattle.mu_text.proofs.Chains.{kept}
 use Rattle.mu_text.proofs.parts.trees.measured_tree.Goals as goal
 
 pub returns : goal.returns

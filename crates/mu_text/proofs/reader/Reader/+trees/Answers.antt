@@ -1,7 +1,7 @@
 use Rattle.std.proofs.Common.{rules, arith, ◌≡◌, ◌-◌, []}
 use Rattle.mu_text.specs.declared.way.Opening.TheVariants as opens
 use Rattle.mu_text.specs.declared.way.Ending.TheVariants as ends
-use Rattle.mu_text.specs.Items.{first_sort}
+use Rattle.mu_text.specs.Lexemes.{first_sort}
 use Rattle.mu_text.specs.Machine.{opening_of, ending_of, want, named, given}
 use Rattle.mu_text.specs.Reads.{Stops}
 use Rattle.mu_text.proofs.Steps.{head_alone, with_arguments, err_arguments, more_arguments, last_argument, argument_unended, err_argument}

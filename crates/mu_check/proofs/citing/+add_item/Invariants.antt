@@ -1,6 +1,0 @@
-use Rattle.std.proofs.Common.{◌≡◌, ◌++◌, take}
-use Rattle.mu_check.specs.Citations.{cites}
-use Rattle.mu_check.proofs.citing.+add_item.Given as goal
-
-abbrev pub invariant-add_items-loop-item : goal.invariant-add_items-loop-item
-invariant-add_items-loop-item l = l.found ≡ l.initial.found ++ cites (take l.item-index l.items)

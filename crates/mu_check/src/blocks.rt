@@ -1,0 +1,61 @@
+ghost use Rattle.std.specs.Prelude.{◌≡◌, IfOk};
+ghost use Rattle.std.specs.List.{list_any};
+ghost use Rattle.mu_check.specs.Blocks.{shadows, block_formed, block_cause};
+
+use crate::allowed::Allowed;
+use crate::cause::Cause;
+use mu_decl::{
+    Context, add_expressions, add_type_occurrences, all_formed, all_occurrences, types_formed,
+};
+use mu_tree::{Names, NoMemory, Sequence, Tree, TypedVar};
+use std::alloc::Global;
+
+fn shadow(scope: &Names, vars: &[TypedVar]) -> bool
+    ensures { result ≡ list_any (shadows scope.now) vars.now }
+{
+    vars.iter().any(|var| scope.contains(&var.name))
+}
+
+fn block_formed<C: Context>(
+    alloc: Global,
+    context: &C,
+    allowed: &Allowed,
+    scope: &Names,
+    vars: &[TypedVar],
+    assumptions: &[Tree],
+) -> Result<bool, NoMemory>
+    ensures { IfOk result (λ yes. yes ≡ block_formed (C.world context.now) allowed.now scope.now vars.now assumptions.now) }
+{
+    let mut inner = Sequence::new(alloc);
+    add_expressions(alloc, scope.items(), &mut inner)?;
+    if !types_formed(alloc, context, &allowed.seen, &mut inner, vars)? {
+        return Ok(false);
+    }
+    all_formed(alloc, context, &allowed.seen, &mut inner, assumptions)
+}
+
+/// The first test that a block fails before its items are looked at.
+pub fn block_cause<C: Context>(
+    alloc: Global,
+    context: &C,
+    allowed: &Allowed,
+    scope: &Names,
+    vars: &[TypedVar],
+    assumptions: &[Tree],
+) -> Result<Option<Cause>, NoMemory>
+    ensures { IfOk result (λ cause. cause ≡ block_cause (C.world context.now) allowed.now scope.now vars.now assumptions.now) }
+{
+    if shadow(scope, vars) {
+        return Ok(Some(Cause::ShadowedVariable));
+    }
+    if !block_formed(alloc, context, allowed, scope, vars, assumptions)? {
+        return Ok(Some(Cause::IllFormedBox));
+    }
+    let mut found = Sequence::new(alloc);
+    add_type_occurrences(alloc, context, vars, &mut found)?;
+    all_occurrences(alloc, context, assumptions, &mut found)?;
+    if !allowed.metas.have(&found) {
+        return Ok(Some(Cause::ForeignMeta));
+    }
+    Ok(None)
+}

@@ -1,0 +1,172 @@
+ghost use Rattle.std.specs.Prelude.{◌≡◌, ◌++◌, IfOk, OnOk, length};
+ghost use Rattle.std.specs.Option.{option_copied};
+ghost use Rattle.mu_check.specs.Definitions.{parameters, body_formed, definition_formed, unfolded_fact, unfolding_cause, defined_cause, definition_cause};
+
+use crate::allowed::Allowed;
+use crate::cause::Cause;
+use crate::environments::Environment;
+use crate::fact::{Fact, is_equal};
+use mu_decl::{
+    Bare, ConstDecl, Context, DeltaRule, Scope, Scoped, delta_of, enter, is_formed, occurrences,
+    unfolded,
+};
+use mu_tree::{Definition, Kind, Name, Names, NoMemory, Sequence, Shape, Tree};
+use std::alloc::Global;
+
+/// The parameters of a definition as variables, one for each kind.
+fn parameters(alloc: Global, names: &[Name], kinds: &[Kind]) -> Result<Scope, NoMemory>
+    requires { length names.now ≡ length kinds.now }
+    ensures { IfOk result (λ scope. scope ≡ parameters names.now kinds.now) }
+{
+    let mut scope = Sequence::new(alloc);
+    for i in 0..names.len() {
+        scope.push(Scoped {
+            name: names[i].copy(alloc)?,
+            kind: kinds[i],
+        })?;
+    }
+    Ok(scope)
+}
+
+fn body_formed<C: Context>(
+    alloc: Global,
+    context: &C,
+    declared: &ConstDecl,
+    definition: &Definition,
+    kinds: &[Kind],
+) -> Result<bool, NoMemory>
+    ensures { IfOk result (λ yes. yes ≡ body_formed (C.world context.now) declared.now definition.now kinds.now) }
+{
+    if kinds.len() != definition.params.len() {
+        return Ok(false);
+    }
+    let seen = context.seen(alloc, &declared.theory)?;
+    let mut scope = parameters(alloc, definition.params.items(), kinds)?;
+    if !is_formed(
+        alloc,
+        context,
+        &seen,
+        &mut scope,
+        declared.result,
+        &definition.body,
+    )? {
+        return Ok(false);
+    }
+    let mut found = Sequence::new(alloc);
+    occurrences(
+        alloc,
+        context,
+        declared.result,
+        &definition.body,
+        &mut found,
+    )?;
+    Ok(found.len() == 0)
+}
+
+/// Whether a definition of a constant that is declared so is well formed.
+fn definition_formed<C: Context>(
+    alloc: Global,
+    context: &C,
+    declared: &ConstDecl,
+    definition: &Definition,
+) -> Result<bool, NoMemory>
+    ensures { IfOk result (λ yes. yes ≡ definition_formed (C.world context.now) declared.now definition.now) }
+{
+    match &declared.shape {
+        Shape::Plain(kinds) => body_formed(alloc, context, declared, definition, kinds.items()),
+        Shape::Binder(_) => Ok(false),
+    }
+}
+
+fn unfolded_fact(alloc: Global, delta: &DeltaRule, tree: &Bare) -> Result<Fact, NoMemory>
+    ensures { IfOk result (λ fact. fact ≡ unfolded_fact delta.now tree.now) }
+{
+    Ok(Fact::Plain(unfolded(alloc, tree, delta)?))
+}
+
+/// Line and reference, both unfolded.
+fn unfolding_cause(
+    alloc: Global,
+    environment: &Environment,
+    tree: &Tree,
+    delta: &DeltaRule,
+    given: Option<&Fact>,
+) -> Result<Option<Cause>, NoMemory>
+    ensures { IfOk result (λ cause. cause ≡ unfolding_cause environment.now tree.now delta.now (option_copied given.entry)) }
+{
+    match given {
+        Some(fact) => match fact {
+            Fact::Plain(bare) => {
+                let bound = Names::new(alloc);
+                let line = enter(alloc, tree, &environment.scope, &bound)?;
+                let line = unfolded_fact(alloc, delta, &line)?;
+                let wanted = unfolded_fact(alloc, delta, bare)?;
+                if is_equal(&line, &wanted) {
+                    Ok(None)
+                } else {
+                    Ok(Some(Cause::ConclusionDiffers))
+                }
+            }
+            Fact::Sequent { .. } => Ok(Some(Cause::HypothesisDiffers)),
+        },
+        None => Ok(None),
+    }
+}
+
+fn defined_cause<C: Context>(
+    alloc: Global,
+    context: &C,
+    allowed: &Allowed,
+    environment: &Environment,
+    tree: &Tree,
+    constant: &Name,
+    given: Option<&Fact>,
+    definition: &Definition,
+    declared: Option<&ConstDecl>,
+) -> Result<Option<Cause>, NoMemory>
+    ensures { IfOk result (λ cause. cause ≡ defined_cause (C.world context.now) allowed.now environment.now tree.now constant.now (option_copied given.entry) definition.now (option_copied declared.entry)) }
+{
+    let declared = match declared {
+        Some(declared) => declared,
+        None => return Ok(Some(Cause::NotVisible)),
+    };
+    if !allowed.seen.contains(&declared.theory) {
+        return Ok(Some(Cause::NotVisible));
+    }
+    if !definition_formed(alloc, context, declared, definition)? {
+        return Ok(Some(Cause::IllFormedDefinition));
+    }
+    let delta = delta_of(alloc, constant, definition)?;
+    let cause = unfolding_cause(alloc, environment, tree, &delta, given)?;
+    Ok(cause)
+}
+
+/// The first test that a line fails which unfolds the definition of a constant in what is given, from the test that
+/// the definition is there on.
+pub fn definition_cause<C: Context>(
+    alloc: Global,
+    context: &C,
+    allowed: &Allowed,
+    environment: &Environment,
+    tree: &Tree,
+    constant: &Name,
+    given: Option<&Fact>,
+    definition: Option<&Definition>,
+) -> Result<Option<Cause>, NoMemory>
+    ensures { IfOk result (λ cause. cause ≡ definition_cause (C.world context.now) allowed.now environment.now tree.now constant.now (option_copied given.entry) (option_copied definition.entry)) }
+{
+    match definition {
+        Some(definition) => defined_cause(
+            alloc,
+            context,
+            allowed,
+            environment,
+            tree,
+            constant,
+            given,
+            definition,
+            context.constant(constant),
+        ),
+        None => Ok(Some(Cause::Absent)),
+    }
+}

@@ -1,0 +1,227 @@
+ghost use Rattle.std.specs.Prelude.{◌≡◌, [], ◌++◌, ◌+◌, IfOk, OnOk, map, nat_eq, length};
+ghost use Rattle.std.specs.Option.{option_copied};
+ghost use Rattle.std.specs.Cmp.Lexicographic.{pointwise};
+ghost use Rattle.mu_check.specs.Hypotheses.{term_typings, opened_fact, gives_this, upshot_cause, plain_cause, terms_formed, sequent_cause, hypothesis_cause};
+
+use crate::allowed::Allowed;
+use crate::cause::Cause;
+use crate::environments::{Environment, gives};
+use crate::fact::{Fact, is_equal};
+use crate::facts::{enter_all, plain_fact, typing_fact};
+use mu_decl::{Bare, Bares, Context, add_expressions, all_formed, all_occurrences, opened};
+use mu_tree::{NoMemory, Ref, Sequence, Tree};
+use sqlite_items::Items;
+use std::alloc::Global;
+
+fn opened_fact(alloc: Global, by: &Bares, tree: &Bare) -> Result<Fact, NoMemory>
+    ensures { IfOk result (λ fact. fact ≡ opened_fact by.now tree.now) }
+{
+    Ok(Fact::Plain(opened(alloc, tree, by)?))
+}
+
+fn add_opened(
+    alloc: Global,
+    by: &Bares,
+    trees: &[Bare],
+    facts: &mut Sequence<Fact>,
+) -> Result<(), NoMemory>
+    ensures { OnOk result (facts.new ≡ facts.old ++ map (opened_fact by.now) trees.now) }
+{
+    for tree in trees {
+        facts.push(opened_fact(alloc, by, tree)?)?;
+    }
+    Ok(())
+}
+
+/// The typing of each term by its variable's type.
+fn term_typings(alloc: Global, terms: &[Bare], types: &[Bare]) -> Result<Sequence<Fact>, NoMemory>
+    requires { length terms.now ≡ length types.now }
+    ensures { IfOk result (λ facts. facts ≡ term_typings [] terms.now types.now) }
+{
+    let mut before = Items::new(alloc);
+    let mut facts = Sequence::new(alloc);
+    for i in 0..terms.len() {
+        facts.push(typing_fact(alloc, &terms[i], opened(alloc, &types[i], &before)?)?)?;
+        before.push(terms[i].copy(alloc)?)?;
+    }
+    Ok(facts)
+}
+
+fn gives_this(environment: &Environment, reference: &Ref, fact: &Fact) -> bool
+    ensures { result ≡ gives_this environment.now reference.now fact.now }
+{
+    match gives(environment, reference) {
+        Some(given) => is_equal(given, fact),
+        None => false,
+    }
+}
+
+fn all_give(environment: &Environment, refs: &[Ref], facts: &[Fact]) -> bool
+    ensures { result ≡ pointwise (gives_this environment.now) refs.now facts.now }
+{
+    if refs.len() != facts.len() {
+        return false;
+    }
+    for i in 0..refs.len() {
+        if !gives_this(environment, &refs[i], &facts[i]) {
+            return false;
+        }
+    }
+    true
+}
+
+/// The first test that references and line fail against a sequent at these terms, one for each of its variables.
+fn upshot_cause(
+    alloc: Global,
+    environment: &Environment,
+    tree: &Tree,
+    refs: &[Ref],
+    terms: &Bares,
+    types: &Bares,
+    premises: &Bares,
+    upshot: &Bare,
+) -> Result<Option<Cause>, NoMemory>
+    requires { length terms.now ≡ length types.now }
+    ensures { IfOk result (λ cause. cause ≡ upshot_cause environment.now tree.now refs.now terms.now types.now premises.now upshot.now) }
+{
+    let mut facts = term_typings(alloc, terms.as_slice(), types.as_slice())?;
+    add_opened(alloc, terms, premises.as_slice(), &mut facts)?;
+    if !all_give(environment, refs, facts.items()) {
+        return Ok(Some(Cause::HypothesisDiffers));
+    }
+    let line = plain_fact(alloc, &environment.scope, tree)?;
+    let upshot = opened_fact(alloc, terms, upshot)?;
+    if is_equal(&line, &upshot) {
+        Ok(None)
+    } else {
+        Ok(Some(Cause::ConclusionDiffers))
+    }
+}
+
+fn terms_formed<C: Context>(
+    alloc: Global,
+    context: &C,
+    allowed: &Allowed,
+    environment: &Environment,
+    terms: &[Tree],
+) -> Result<bool, NoMemory>
+    ensures { IfOk result (λ yes. yes ≡ terms_formed (C.world context.now) allowed.now environment.now terms.now) }
+{
+    let mut scope = Sequence::new(alloc);
+    add_expressions(alloc, environment.scope.items(), &mut scope)?;
+    if !all_formed(alloc, context, &allowed.seen, &mut scope, terms)? {
+        return Ok(false);
+    }
+    let mut found = Sequence::new(alloc);
+    all_occurrences(alloc, context, terms, &mut found)?;
+    Ok(allowed.metas.have(&found))
+}
+
+fn plain_cause(
+    alloc: Global,
+    environment: &Environment,
+    tree: &Tree,
+    given: &Fact,
+) -> Result<Option<Cause>, NoMemory>
+    ensures { IfOk result (λ cause. cause ≡ plain_cause environment.now tree.now given.now) }
+{
+    let line = plain_fact(alloc, &environment.scope, tree)?;
+    if is_equal(&line, given) {
+        Ok(None)
+    } else {
+        Ok(Some(Cause::ConclusionDiffers))
+    }
+}
+
+/// Whether a number is the sum of two.
+fn are_together(number: usize, left: usize, right: usize) -> bool
+    ensures { result ≡ nat_eq number (left + right) }
+{
+    match left.checked_add(right) {
+        Some(sum) => number == sum,
+        None => false,
+    }
+}
+
+/// The first test that a line fails which cites a sequent hypothesis.
+fn sequent_cause<C: Context>(
+    alloc: Global,
+    context: &C,
+    allowed: &Allowed,
+    environment: &Environment,
+    tree: &Tree,
+    terms: &[Tree],
+    refs: &[Ref],
+    types: &Bares,
+    premises: &Bares,
+    upshot: &Bare,
+) -> Result<Option<Cause>, NoMemory>
+    ensures { IfOk result (λ cause. cause ≡ sequent_cause (C.world context.now) allowed.now environment.now tree.now terms.now refs.now types.now premises.now upshot.now) }
+{
+    if terms.len() != types.len() || !are_together(refs.len(), types.len(), premises.len()) {
+        return Ok(Some(Cause::WrongCount));
+    }
+    if !terms_formed(alloc, context, allowed, environment, terms)? {
+        return Ok(Some(Cause::IllFormedInstance));
+    }
+    let bound = Sequence::new(alloc);
+    let terms = enter_all(alloc, terms, &environment.scope, &bound)?;
+    let cause = upshot_cause(
+        alloc,
+        environment,
+        tree,
+        refs,
+        &terms,
+        types,
+        premises,
+        upshot,
+    )?;
+    Ok(cause)
+}
+
+/// The first test that a line fails which cites a hypothesis, from the test that it is there on.
+pub fn hypothesis_cause<C: Context>(
+    alloc: Global,
+    context: &C,
+    allowed: &Allowed,
+    environment: &Environment,
+    tree: &Tree,
+    terms: &[Tree],
+    refs: &[Ref],
+    cited: Option<&Fact>,
+) -> Result<Option<Cause>, NoMemory>
+    ensures { IfOk result (λ cause. cause ≡ hypothesis_cause (C.world context.now) allowed.now environment.now tree.now terms.now refs.now (option_copied cited.entry)) }
+{
+    let cited = match cited {
+        Some(cited) => cited,
+        None => return Ok(Some(Cause::Absent)),
+    };
+    match cited {
+        Fact::Plain(_) => {
+            if terms.len() != 0 || refs.len() != 0 {
+                return Ok(Some(Cause::WrongCount));
+            }
+            let cause = plain_cause(alloc, environment, tree, cited)?;
+            Ok(cause)
+        }
+        Fact::Sequent {
+            types,
+            premises,
+            upshot,
+        } => {
+            let cause = sequent_cause(
+                alloc,
+                context,
+                allowed,
+                environment,
+                tree,
+                terms,
+                refs,
+                types,
+                premises,
+                upshot,
+            )?;
+            Ok(cause)
+        }
+    }
+}

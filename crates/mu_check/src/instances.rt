@@ -1,0 +1,136 @@
+ghost use Rattle.std.specs.Prelude.{◌≡◌, false, nat_eq, IfOk, MatchOption};
+ghost use Rattle.std.specs.FinMap as finite;
+ghost use Rattle.std.specs.List.{list_all};
+ghost use Rattle.std.specs.Cmp.Lexicographic.{pointwise};
+ghost use Rattle.mu_check.specs.Instances.{are_distinct, AreSet, expressions, fits, has_meta, metas_of, is_instance};
+
+use crate::allowed::Allowed;
+use crate::metas::Metas;
+use mu_decl::{Context, Occurrence, Scope, add_expressions, is_formed, occurrences};
+use mu_tree::{Given, Name, NameSet, Names, NoMemory, Sequence};
+use std::alloc::Global;
+
+/// The names as a set, none where one stands twice.
+fn distinct(alloc: Global, names: &[Name]) -> Result<Option<NameSet>, NoMemory>
+    ensures { IfOk result (λ found. MatchOption found (are_distinct names.now ≡ false) (λ set. AreSet set names.now)) }
+{
+    let mut set = NameSet::new(alloc);
+    for name in names {
+        if set.has(name) {
+            return Ok(None);
+        }
+        set.add(name.copy(alloc)?)?;
+    }
+    Ok(Some(set))
+}
+
+fn are_distinct(alloc: Global, names: &[Name]) -> Result<bool, NoMemory>
+    ensures { IfOk result (λ yes. yes ≡ are_distinct names.now) }
+{
+    match distinct(alloc, names)? {
+        Some(_) => Ok(true),
+        None => Ok(false),
+    }
+}
+
+fn have_metas(set: &NameSet, all: &[Occurrence]) -> bool
+    ensures { result ≡ list_all (λ o. finite.contains_key set.now o.meta) all.now }
+{
+    all.iter().all(|occurrence| set.has(&occurrence.meta))
+}
+
+fn expressions(alloc: Global, scope: &Names, names: &Names) -> Result<Scope, NoMemory>
+    ensures { IfOk result (λ all. all ≡ expressions scope.now names.now) }
+{
+    let mut all = Sequence::new(alloc);
+    add_expressions(alloc, scope.items(), &mut all)?;
+    add_expressions(alloc, names.items(), &mut all)?;
+    Ok(all)
+}
+
+/// Whether a body may stand for its metavariable, which has to be one of the cited claim.
+fn fits<C: Context>(
+    alloc: Global,
+    context: &C,
+    allowed: &Allowed,
+    scope: &Names,
+    all: &Metas,
+    given: &Given,
+) -> Result<bool, NoMemory>
+    ensures { IfOk result (λ yes. yes ≡ fits (C.world context.now) allowed.now scope.now all.now given.now) }
+{
+    let first = match all.first(&given.meta) {
+        Some(first) => first,
+        None => return Ok(false),
+    };
+    if first.count != given.params.len() {
+        return Ok(false);
+    }
+    if !are_distinct(alloc, given.params.items())? {
+        return Ok(false);
+    }
+    let mut inner = expressions(alloc, scope, &given.params)?;
+    if !is_formed(
+        alloc,
+        context,
+        &allowed.seen,
+        &mut inner,
+        first.kind,
+        &given.body,
+    )? {
+        return Ok(false);
+    }
+    let mut found = Sequence::new(alloc);
+    occurrences(alloc, context, first.kind, &given.body, &mut found)?;
+    Ok(allowed.metas.have(&found))
+}
+
+fn all_fit<C: Context>(
+    alloc: Global,
+    context: &C,
+    allowed: &Allowed,
+    scope: &Names,
+    all: &Metas,
+    given: &[Given],
+) -> Result<bool, NoMemory>
+    ensures { IfOk result (λ yes. yes ≡ list_all (fits (C.world context.now) allowed.now scope.now all.now) given.now) }
+{
+    for each in given {
+        if !fits(alloc, context, allowed, scope, all, each)? {
+            return Ok(false);
+        }
+    }
+    Ok(true)
+}
+
+fn metas_of(alloc: Global, given: &[Given]) -> Result<Names, NoMemory>
+    ensures { IfOk result (λ names. names ≡ metas_of given.now) }
+{
+    let mut names = Sequence::new(alloc);
+    for each in given {
+        names.push(each.meta.copy(alloc)?)?;
+    }
+    Ok(names)
+}
+
+/// Whether an instantiation gives each metavariable of a claim exactly once, no other, and each by a body that fits.
+/// Of the claim it takes the occurrences of metavariables.
+pub fn is_instance<C: Context>(
+    alloc: Global,
+    context: &C,
+    allowed: &Allowed,
+    scope: &Names,
+    all: &Metas,
+    given: &[Given],
+) -> Result<bool, NoMemory>
+    ensures { IfOk result (λ yes. yes ≡ is_instance (C.world context.now) allowed.now scope.now all.now given.now) }
+{
+    if !all_fit(alloc, context, allowed, scope, all, given)? {
+        return Ok(false);
+    }
+    let names = metas_of(alloc, given)?;
+    match distinct(alloc, names.items())? {
+        Some(set) => Ok(have_metas(&set, all.items())),
+        None => Ok(false),
+    }
+}

@@ -1,0 +1,56 @@
+-- The word of a form, and the parts that follow it.
+use Rattle.std.proofs.Common.{◌≡◌, ◌∙◌, ap, sym, refl, Bool, true, false}
+use Rattle.std.specs.Prelude.{◌||◌, List, Result, Ok, Err}
+use Rattle.mu_text.specs.declared.fault.PartFault.{PartFault}
+use Rattle.mu_text.specs.declared.fault.PartFault.TheVariants.{Mismatch, NoMemory}
+use Rattle.mu_text.specs.Lexemes.{Lexeme}
+use Rattle.mu_text.specs.Parts.{found, ◌>>=◌, Read, Gives, Same}
+use Rattle.mu_text.specs.declared.excess.Excess.{Excess}
+use Rattle.mu_text.specs.declared.excess.Measured.{Measured}
+use Rattle.mu_text.proofs.Excesses.{same_excess}
+use Rattle.mu_text.specs.Excesses.{no_excess}
+use Rattle.mu_command.specs.Parts.{either_excess}
+use Rattle.mu_command.specs.declared.command.Command.{Command}
+use Rattle.mu_command.specs.declared.forms.Form.{Form}
+use Rattle.mu_command.specs.Forms.{read_form}
+use Rattle.mu_command.specs.Grammar.{StandsForm, StandsCommand, read_parts, read_command}
+
+-- a command is read by its word and then by the parts of its form
+after_word : (form : Form) (ts mid : List Lexeme) → Read Same (read_form ts) form mid → read_command ts ≡ (read_parts form mid >>= (λ v rest. found (form, v) rest))
+unfolding read_command
+after_word form ts mid word =
+    ap (λ o. o >>= (λ f behind. read_parts f behind >>= (λ v rest. found (f, v) rest))) (word.is ∙ ap (λ f. found f mid) (sym word.stands))
+
+-- what the parts of a form give is what the command gives
+pub form_then : (form : Form) (ts mid rest : List Lexeme) (answer : Result (Measured Command) PartFault) → Read Same (read_form ts) form mid → Gives (StandsForm form) (read_parts form mid) answer rest
+    → Gives StandsCommand (read_command ts) answer rest
+form_then form ts mid rest (Ok c) word parts = record {
+  value = (form, parts.value);
+  is = after_word form ts mid word ∙ ap (λ o. o >>= (λ v left. found (form, v) left)) parts.is;
+  stands = parts.stands;
+}
+form_then form ts mid rest (Err Mismatch) word parts = after_word form ts mid word ∙ ap (λ o. o >>= (λ v left. found (form, v) left)) parts
+form_then form ts mid rest (Err NoMemory) word parts = tt
+
+-- where no form is told, no command goes on
+pub form_stops : (ts rest : List Lexeme) (fault : PartFault) → Gives Same (read_form ts) (Err fault) rest → Gives StandsCommand (read_command ts) (Err fault) rest
+unfolding read_command
+form_stops ts rest Mismatch stops = ap (λ o. o >>= (λ f behind. read_parts f behind >>= (λ v left. found (f, v) left))) stops
+form_stops ts rest NoMemory stops = tt
+
+-- a measured value, by its fields
+pub measured_is : {A : Type 0} (m : Measured A) (x : A) (e : Excess) → m.value ≡ x → m.excess ≡ e → m ≡ record { value = x; excess = e }
+measured_is {A} m x e i j =
+    let first : A → Measured A = λ v. record { value = v; excess = m.excess } in
+    let second : Excess → Measured A = λ f. record { value = x; excess = f } in
+    ap first i ∙ ap second j
+
+or_false : (b : Bool) → b ≡ (b || false)
+or_false true = refl
+or_false false = refl
+
+-- the excess of the last part alone
+pub last_excess : {A : Type 0} (x : A) (e : Excess) → ◌≡◌ {A = Measured A} (record { value = x; excess = e }) (record { value = x; excess = either_excess e no_excess })
+last_excess {A} x e =
+    let wrap : Excess → Measured A = λ f. record { value = x; excess = f } in
+    ap wrap (same_excess e (either_excess e no_excess) (or_false e.nodes) (or_false e.depth))

@@ -1,0 +1,114 @@
+-- Comparing lists of trees in step, and taking trees out from under binders.
+use Rattle.std.proofs.Common.{◌≡◌, ℕ, zero, suc, ◌+◌, ◌-◌, ◌<◌, ◌↔◌, IsTrue, Bool, true, false, nat_lt, List, [], ◌∷◌, ◌++◌, length, map, reverse, take, get_or, slice_get, Option, Some, None, refl, ap, sym, ◌∙◌, subst, arith}
+use Rattle.std.specs.List.{AllByRecursion}
+use Rattle.mu_decl.specs.declared.bare.Bare.{Bare}
+use Rattle.mu_decl.specs.declared.bare.Bare.TheOpen.{App, Meta, Bind}
+use Rattle.mu_decl.specs.declared.bare.Bare.TheViews.{out-Bare, out-roll-Bare}
+use Rattle.mu_decl.specs.declared.bare.Bare.TheVariants as bare
+use Rattle.mu_decl.specs.Opening.{shift_under, opened}
+use Rattle.mu_decl.specs.Laws.{ShiftedIsUntouched}
+use Rattle.mu_decl.proofs.OpeningEquations.{shift-var, shift-index, shift-app, shift-meta, shift-bind}
+use Rattle.mu_decl.proofs.Induction.{bare_ind}
+use Rattle.mu_decl.proofs.Untouched.{shifted_is_untouched}
+
+-- images that are equal are equal at each place
+pub equal_there : (f : Bare → Bare) (ps ts : List Bare) (i : ℕ) (p t : Bare) → i < length ps → p ≡ get_or ps i p → t ≡ get_or ts i t → map f ps ≡ ts → f p ≡ t
+equal_there f [] ts i p t h a b e = absurd (omega arith)
+equal_there f (q ∷ ps) [] i p t h a b e = absurd (cc)
+equal_there f (q ∷ ps) (u ∷ ts) zero p t h a b e = cc
+equal_there f (q ∷ ps) (u ∷ ts) (suc i) p t h a b e = equal_there f ps ts i p t (omega arith) a b (let r : map f ps ≡ ts = cc in r)
+
+module _ where
+  abbrev Stays : Bare → Type 0
+  Stays t = (d : ℕ) → shift_under 0 d t ≡ t
+
+  all_stay : (d : ℕ) (ts : List Bare) → AllByRecursion Stays ts → map (shift_under 0 d) ts ≡ ts
+  all_stay d [] c = refl
+  all_stay d (t ∷ ts) c =
+      let e = c.0 d in
+      let r = all_stay d ts c.1 in
+      cc
+
+  stays : (t : Bare) → Stays t
+  stays = bare_ind Stays var index app meta bind
+    where
+      var : (x : List ℕ) → Stays (bare.Var x)
+      var x d = shift-var 0 d x
+
+      case : (i d : ℕ) (b : Bool) → nat_lt i d ≡ b → shift_under 0 d (bare.Index i) ≡ bare.Index i
+      case i d true is = cc (shift-index 0 d i, is)
+      case i d false is =
+          let none : i + 0 ≡ i = omega arith in
+          cc (shift-index 0 d i, is, none)
+
+      index : (i : ℕ) → Stays (bare.Index i)
+      index i d = case i d (nat_lt i d) refl
+
+      app : (f : List ℕ) (ts : List Bare) → AllByRecursion Stays ts → Stays (bare.App f ts)
+      app f ts c d = cc (shift-app 0 d f ts, all_stay d ts c)
+
+      meta : (m : List ℕ) (ts : List Bare) → AllByRecursion Stays ts → Stays (bare.Meta m ts)
+      meta m ts c d = cc (shift-meta 0 d m ts, all_stay d ts c)
+
+      bind : (b : List ℕ) (domain body : Bare) → Stays domain → Stays body → Stays (bare.Bind b domain body)
+      bind b domain body c e d = cc (shift-bind 0 d b domain body, c d, e (d + 1))
+
+-- a tree that is put under no binder stays
+pub shift-none : (t : Bare) → shift_under 0 0 t ≡ t
+shift-none t = stays t 0
+
+-- what a tree was before it was put under as many binders as there are trees in `by`
+pub before_shift : (by : List Bare) (x tree : Bare) → shift_under (length by) 0 x ≡ tree → x ≡ opened by tree
+unfolding ShiftedIsUntouched
+before_shift by x tree e = let s : opened by (shift_under (length by) 0 x) ≡ x = shifted_is_untouched by x in sym s ∙ ap (opened by) e
+
+-- a tree that comes back when it is put under the binders again is the only one that gives it
+pub only_before : (by : List Bare) (n : ℕ) (low back tree : Bare) → length by ≡ n → low ≡ opened by tree → back ≡ shift_under n 0 low → back ≡ tree → (x : Bare) → (x ≡ low) ↔ (shift_under n 0 x ≡ tree)
+only_before by n low back tree c l b e x = (
+  (λ s. cc),
+  (λ s. before_shift by x tree (ap (λ m. shift_under m 0 x) c ∙ s) ∙ sym l),
+)
+
+-- and where it doesn't, none does
+pub none_before : (by : List Bare) (n : ℕ) (low back tree : Bare) → length by ≡ n → low ≡ opened by tree → back ≡ shift_under n 0 low → (back ≡ tree → ⊥) → (x : Bare) → shift_under n 0 x ≡ tree → ⊥
+none_before by n low back tree c l b e x s =
+    let is : x ≡ low = before_shift by x tree (ap (λ m. shift_under m 0 x) c ∙ s) ∙ sym l in
+    e (b ∙ ap (shift_under n 0) (sym is) ∙ s)
+
+app_layer : (f : List ℕ) (xs : List Bare) → out-Bare (bare.App f xs) ≡ App f xs
+app_layer f xs = ap out-Bare (sym (bare.rolls-App f xs)) ∙ out-roll-Bare (App f xs)
+
+meta_layer : (m : List ℕ) (xs : List Bare) → out-Bare (bare.Meta m xs) ≡ Meta m xs
+meta_layer m xs = ap out-Bare (sym (bare.rolls-Meta m xs)) ∙ out-roll-Bare (Meta m xs)
+
+bind_layer : (b : List ℕ) (domain body : Bare) → out-Bare (bare.Bind b domain body) ≡ Bind b domain body
+bind_layer b domain body = ap out-Bare (sym (bare.rolls-Bind b domain body)) ∙ out-roll-Bare (Bind b domain body)
+
+app_parts : (f : List ℕ) (xs ys : List Bare) → bare.App f xs ≡ bare.App f ys → xs ≡ ys
+app_parts f xs ys e = let h : App f xs ≡ App f ys = sym (app_layer f xs) ∙ ap out-Bare e ∙ app_layer f ys in cc h
+
+meta_parts : (m : List ℕ) (xs ys : List Bare) → bare.Meta m xs ≡ bare.Meta m ys → xs ≡ ys
+meta_parts m xs ys e = let h : Meta m xs ≡ Meta m ys = sym (meta_layer m xs) ∙ ap out-Bare e ∙ meta_layer m ys in cc h
+
+bind_parts : (n : List ℕ) (a b c d : Bare) → bare.Bind n a b ≡ bare.Bind n c d → (a ≡ c) × (b ≡ d)
+bind_parts n a b c d e = let h : Bind n a b ≡ Bind n c d = sym (bind_layer n a b) ∙ ap out-Bare e ∙ bind_layer n c d in (cc h, cc h)
+
+-- a node and a tree with one top are equal exactly where their parts are
+pub app_in_step : {P : Type 0} (v : Bare) (f : List ℕ) (vs ts : List Bare) (tree : Bare) → v ≡ bare.App f vs → bare.App f ts ≡ tree → P ↔ (vs ≡ ts) → P ↔ (v ≡ tree)
+app_in_step v f vs ts tree a b h = ((λ p. a ∙ ap (bare.App f) (h.0 p) ∙ b), (λ s. h.1 (app_parts f vs ts (sym a ∙ s ∙ sym b))))
+
+pub meta_in_step : {P : Type 0} (v : Bare) (m : List ℕ) (vs ts : List Bare) (tree : Bare) → v ≡ bare.Meta m vs → bare.Meta m ts ≡ tree → P ↔ (vs ≡ ts) → P ↔ (v ≡ tree)
+meta_in_step v m vs ts tree a b h = ((λ p. a ∙ ap (bare.Meta m) (h.0 p) ∙ b), (λ s. h.1 (meta_parts m vs ts (sym a ∙ s ∙ sym b))))
+
+pub bind_in_step : {P : Type 0} (v : Bare) (n : List ℕ) (domain body other inner tree : Bare) → v ≡ bare.Bind n domain body → bare.Bind n other inner ≡ tree → domain ≡ other → P ↔ (body ≡ inner) → P ↔ (v ≡ tree)
+bind_in_step v n domain body other inner tree a b d h = (
+  (λ p. let e = h.0 p in cc),
+  (λ s. h.1 (bind_parts n domain body other inner (sym a ∙ s ∙ sym b)).1),
+)
+
+-- two binders with two domains differ
+pub bind_differs : (v : Bare) (n : List ℕ) (domain body other inner tree : Bare) → v ≡ bare.Bind n domain body → bare.Bind n other inner ≡ tree → (domain ≡ other → ⊥) → IsTrue false ↔ (v ≡ tree)
+bind_differs v n domain body other inner tree a b d = (
+  (λ f. absurd (let z : ⊥ = cc f in z)),
+  (λ s. absurd (d (bind_parts n domain body other inner (sym a ∙ s ∙ sym b)).0)),
+)

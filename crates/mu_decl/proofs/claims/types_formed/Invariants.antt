@@ -1,0 +1,10 @@
+use Rattle.std.proofs.Common.{◌≡◌, ◌++◌, take, drop, map}
+use Rattle.mu_decl.specs.Formation.{expression}
+use Rattle.mu_decl.specs.Claims.{names_of, types_formed}
+use Rattle.mu_decl.proofs.claims.types_formed.Given as goal
+
+abbrev pub invariant-loop-var : goal.invariant-loop-var
+invariant-loop-var g l = record {
+  formed : types_formed (g.C.Context.world l.context) l.seen l.initial.scope l.vars ≡ types_formed (g.C.Context.world l.context) l.seen l.scope (drop l.var-index l.vars);
+  entered : l.scope ≡ l.initial.scope ++ map expression (names_of (take l.var-index l.vars));
+}

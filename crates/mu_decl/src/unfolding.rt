@@ -1,0 +1,105 @@
+ghost use Rattle.std.specs.Prelude.{◌≡◌, IfOk, map};
+ghost use Rattle.mu_decl.specs.Laws.{UnfoldingOpens};
+ghost use Rattle.mu_decl.specs.Unfolding.{unfolded, unfolded_application, delta_of};
+
+use crate::bare::{Bare, Bares};
+use crate::nameless::enter;
+use crate::opening::opened;
+use mu_tree::{Definition, Name, Names, NoMemory};
+use sqlite_items::{Boxed, Items};
+use std::alloc::Global;
+
+/// A definition as a rule of delta reduction: its body, under as many binders as the constant has parameters.
+#[derive(Debug, Drop)]
+pub struct DeltaRule {
+    /// The constant that is defined.
+    pub constant: Name,
+    /// How many parameters it has.
+    pub count: usize,
+    /// What it stands for, in which a parameter is a loose index, 0 for the last one.
+    pub body: Bare,
+}
+
+/// The definition of a constant.
+pub fn delta_of(
+    alloc: Global,
+    constant: &Name,
+    definition: &Definition,
+) -> Result<DeltaRule, NoMemory>
+    ensures { IfOk result (λ delta. delta ≡ delta_of constant.now definition.now) }
+{
+    let scope = Names::new(alloc);
+    Ok(DeltaRule {
+        constant: constant.copy(alloc)?,
+        count: definition.params.len(),
+        body: enter(alloc, &definition.body, &scope, &definition.params)?,
+    })
+}
+
+/// A tree with a defined constant replaced by its definition wherever it stands with as many arguments as there are
+/// parameters, from inside out. In the bodies that come in it is not replaced again.
+///
+/// The clause `opens` says that it does not matter whether a binder is opened before or after. Its premise, that the
+/// definition has no loose indices but its parameters, holds of what `delta_of` gives.
+///
+/// # Errors
+///
+/// `NoMemory` may come at any tree, and comes where an index would pass `u64::MAX`.
+#[tactic(auto, using(crate::proofs::UnfoldedOpened::unfolding_opens))]
+pub fn unfolded(alloc: Global, tree: &Bare, delta: &DeltaRule) -> Result<Bare, NoMemory>
+    ensures value { IfOk result (λ bare. bare ≡ unfolded delta.now tree.now) }
+    ensures opens { UnfoldingOpens }
+{
+    reduced(alloc, tree, delta)
+}
+
+#[cycle(reduced)]
+#[tactic(auto, using(crate::proofs::UnfoldedEquations::unfolded_equations))]
+fn reduced(alloc: Global, tree: &Bare, delta: &DeltaRule) -> Result<Bare, NoMemory>
+    ensures { IfOk result (λ bare. bare ≡ unfolded delta.now tree.now) }
+{
+    match tree {
+        Bare::Var(name) => Ok(Bare::Var(name.copy(alloc)?)),
+        Bare::Index(index) => Ok(Bare::Index(*index)),
+        Bare::App(name, arguments) => {
+            let arguments = reduced_all(alloc, arguments.as_slice(), delta)?;
+            application(alloc, name, arguments, delta)
+        }
+        Bare::Meta(name, arguments) => {
+            let name = name.copy(alloc)?;
+            let arguments = reduced_all(alloc, arguments.as_slice(), delta)?;
+            Ok(Bare::Meta(name, arguments))
+        }
+        Bare::Bind(binder, domain, body) => Ok(Bare::Bind(
+            binder.copy(alloc)?,
+            Boxed::new(alloc, reduced(alloc, domain.get(), delta)?)?,
+            Boxed::new(alloc, reduced(alloc, body.get(), delta)?)?,
+        )),
+    }
+}
+
+#[cycle(reduced)]
+fn reduced_all(alloc: Global, trees: &[Bare], delta: &DeltaRule) -> Result<Bares, NoMemory>
+    ensures { IfOk result (λ all. all ≡ map (unfolded delta.now) trees.now) }
+{
+    let mut all = Items::new(alloc);
+    for tree in trees {
+        all.push(reduced(alloc, tree, delta)?)?;
+    }
+    Ok(all)
+}
+
+fn application(
+    alloc: Global,
+    name: &Name,
+    arguments: Bares,
+    delta: &DeltaRule,
+) -> Result<Bare, NoMemory>
+    ensures { IfOk result (λ bare. bare ≡ unfolded_application delta.now name.now arguments) }
+{
+    if *name == delta.constant && delta.count == arguments.len() {
+        opened(alloc, &delta.body, &arguments)
+    } else {
+        Ok(Bare::App(name.copy(alloc)?, arguments))
+    }
+}

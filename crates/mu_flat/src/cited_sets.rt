@@ -1,0 +1,40 @@
+ghost use Rattle.mu_flat.specs.CitedSets.{is_marked};
+
+use mu_graph::KeySet;
+use mu_proof::Cited;
+use mu_tree::{NameSet, NoMemory};
+use std::alloc::Global;
+
+/// A set of rules and morphisms.
+#[derive(Drop)]
+pub struct CitedSet {
+    rules: NameSet,
+    morphisms: NameSet,
+}
+
+impl KeySet for CitedSet {
+    type Key = Cited;
+
+    ghost marked = { λ set member. is_marked set.rules set.morphisms member };
+
+    fn none(alloc: Global) -> CitedSet {
+        CitedSet {
+            rules: NameSet::new(alloc),
+            morphisms: NameSet::new(alloc),
+        }
+    }
+
+    fn has(&self, key: &Cited) -> bool {
+        match key {
+            Cited::Rule(name) => self.rules.has(name),
+            Cited::Morphism(name) => self.morphisms.has(name),
+        }
+    }
+
+    fn add(&mut self, key: Cited) -> Result<(), NoMemory> {
+        match key {
+            Cited::Rule(name) => self.rules.add(name),
+            Cited::Morphism(name) => self.morphisms.add(name),
+        }
+    }
+}

@@ -1,6 +1,0 @@
-use Rattle.std.proofs.Common.{take}
-use Rattle.mu_status.specs.Books.{IsBook}
-use Rattle.mu_status.proofs.established.book_of.Given as goal
-
-abbrev pub invariant-loop-member : goal.invariant-loop-member
-invariant-loop-member l = IsBook l.store (take l.member-index l.members) l.rules

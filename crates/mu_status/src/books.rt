@@ -1,0 +1,165 @@
+ghost use Rattle.std.specs.Prelude.{◌≡◌, ◌∷◌, ◌++◌, [], map, List, IfOk, OnOk};
+ghost use Rattle.std.specs.FinMap as finite;
+ghost use Rattle.std.specs.List.{filter, list_all};
+ghost use Rattle.mu_proof.specs.Citations.{cites};
+ghost use Rattle.mu_proof.specs.declared.citations.Cited.{Cited as CitedOf};
+ghost use Rattle.mu_proof.specs.declared.citations.Cited.TheVariants.{Rule};
+ghost use Rattle.mu_flat.specs.CitedSets.{is_marked};
+ghost use Rattle.mu_graph.specs.Derivations.{Stands, is_ready};
+ghost use Rattle.mu_status.specs.Books.{kept_ways, IsBook};
+ghost use Rattle.mu_status.specs.Statuses.{checks, formed_ways, ways, is_established};
+
+use mu_check::check_proof;
+use mu_decl::{Context, Statement, well_formed};
+use mu_flat::{CitedSet, Store};
+use mu_graph::{Inferences, KeySet, reachable, reached};
+use mu_proof::{Citations, Cited, Proof, cites};
+use mu_tree::{Name, NoMemory, Sequence, Table};
+use std::alloc::Global;
+
+/// The ways to some rules.
+#[derive(Drop)]
+struct Book {
+    rules: Table<Sequence<Citations>>,
+}
+
+impl Inferences for Book {
+    type Set = CitedSet;
+
+    ghost ways = { λ book member. kept_ways book.rules member };
+
+    fn is_ready(&self, key: &Cited, marks: &CitedSet) -> bool {
+        match key {
+            Cited::Rule(rule) => match self.rules.get(rule) {
+                Some(ways) => some_marked(ways.items(), marks),
+                None => false,
+            },
+            Cited::Morphism(_) => false,
+        }
+    }
+}
+
+fn all_marked(way: &Citations, marks: &CitedSet) -> bool
+    ensures { result ≡ list_all (⟦<CitedSet as KeySet>⟧.marked marks.now) way.now }
+{
+    way.items().iter().all(|member| marks.has(member))
+}
+
+fn some_marked(ways: &[Citations], marks: &CitedSet) -> bool
+    ensures { result ≡ is_ready (⟦<CitedSet as KeySet>⟧.marked marks.now) ways.now }
+{
+    ways.iter().any(|way| all_marked(way, marks))
+}
+
+/// What each proof of a rule that checks cites.
+fn proof_ways(
+    alloc: Global,
+    store: &Store,
+    rule: &Name,
+    proofs: &Table<Proof>,
+) -> Result<Sequence<Citations>, NoMemory>
+    ensures { IfOk result (λ ways. ways ≡ map (λ entry. cites entry.1) (filter (checks store.now rule.now) (finite.entries proofs.now))) }
+{
+    let mut ways = Sequence::new(alloc);
+    for entry in proofs.entries(alloc)? {
+        if check_proof(alloc, store, entry.1, rule)?.is_none() {
+            ways.push(cites(alloc, entry.1.items())?)?;
+        }
+    }
+    Ok(ways)
+}
+
+/// The ways to a rule with this statement, whose claim is well formed. Each proof of it is checked once.
+pub(crate) fn formed_ways(
+    alloc: Global,
+    store: &Store,
+    rule: &Name,
+    statement: &Statement,
+) -> Result<Sequence<Citations>, NoMemory>
+    ensures { IfOk result (λ ways. ways ≡ formed_ways store.now rule.now statement.now) }
+{
+    let mut ways = Sequence::new(alloc);
+    if statement.is_axiom {
+        ways.push(Sequence::new(alloc))?;
+        return Ok(ways);
+    }
+    match store.proofs().of_rule(rule) {
+        Some(proofs) => proof_ways(alloc, store, rule, proofs),
+        None => Ok(ways),
+    }
+}
+
+/// The ways to the rule of a name, none where there is no such rule or its claim is not well formed.
+fn ways_to(alloc: Global, store: &Store, rule: &Name) -> Result<Sequence<Citations>, NoMemory>
+    ensures { IfOk result (λ found. found ≡ ways store.now (Rule rule.now)) }
+{
+    let Some(statement) = store.rule(rule) else {
+        return Ok(Sequence::new(alloc));
+    };
+    if !well_formed(alloc, store, &statement.theory, &statement.claim)? {
+        return Ok(Sequence::new(alloc));
+    }
+    formed_ways(alloc, store, rule, statement)
+}
+
+/// The ways to some members, of which a rule is one whose ways are known.
+fn book_of(
+    alloc: Global,
+    store: &Store,
+    rule: &Name,
+    own: Sequence<Citations>,
+    members: &[Cited],
+) -> Result<Book, NoMemory>
+    requires own { own ≡ ways store.now (Rule rule.now) }
+    requires there { Stands (Rule rule.now) members.now }
+    ensures { IfOk result (λ book. IsBook store.now members.now book.rules) }
+{
+    let mut rules = Table::new(alloc);
+    rules.put(rule.copy(alloc)?, own)?;
+    for member in members {
+        if let Cited::Rule(name) = member {
+            add_ways(alloc, store, name, &mut rules)?;
+        }
+    }
+    Ok(Book { rules })
+}
+
+/// Adds the ways to the rule of a name, unless they are there.
+fn add_ways(
+    alloc: Global,
+    store: &Store,
+    rule: &Name,
+    rules: &mut Table<Sequence<Citations>>,
+) -> Result<(), NoMemory>
+    ensures { OnOk result ((members : List CitedOf) → IsBook store.now members rules.old → IsBook store.now (members ++ Rule rule.now ∷ []) rules.new) }
+{
+    if rules.has(rule) {
+        return Ok(());
+    }
+    rules.put(rule.copy(alloc)?, ways_to(alloc, store, rule)?)?;
+    Ok(())
+}
+
+/// Whether some derivation has the rule, to which the ways are known. It looks only at what the rule reaches by citations,
+/// and checks each proof of these once.
+///
+/// # Errors
+///
+/// `NoMemory`.
+pub(crate) fn is_established(
+    alloc: Global,
+    store: &Store,
+    rule: &Name,
+    own: Sequence<Citations>,
+) -> Result<bool, NoMemory>
+    requires { own ≡ ways store.now (Rule rule.now) }
+    ensures { IfOk result (λ yes. yes ≡ is_established store.now rule.now) }
+{
+    let member = Cited::Rule(rule.copy(alloc)?);
+    let mut starts = Vec::new(alloc);
+    starts.push(Cited::Rule(rule.copy(alloc)?))?;
+    let order = reachable(alloc, store.proofs(), starts)?;
+    let book = book_of(alloc, store, rule, own, order.as_slice())?;
+    let marks = reached(alloc, &book, <CitedSet as KeySet>::none(alloc), order)?;
+    Ok(marks.has(&member))
+}

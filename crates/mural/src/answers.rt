@@ -1,0 +1,164 @@
+ghost use Rattle.std.specs.Prelude.{◌≡◌, false, Some, IfOk, OnErr};
+ghost use Rattle.std.specs.Option.{option_copied};
+ghost use Rattle.std.specs.FinMap as finite;
+ghost use Rattle.mu_command.specs.Plain.{HasPlainNames};
+ghost use Rattle.mu_edit.specs.Changes.{refusal};
+ghost use Rattle.mural.specs.Answers.{answer, carry_out, is_quiet as quiet_test, outcome, queried as asked_for, query as query_outcome, status_page, touches_base as base_test};
+
+use crate::reply::Reply;
+use mu_command::{Command, Reading, read};
+use mu_decl::{Context, Statement};
+use mu_edit::apply;
+use mu_flat::{EditFault, Store, is_base, is_base_constant};
+use mu_status::{RuleStatus, status};
+use mu_text::is_blank;
+use mu_tree::{Bytes, Name, NoMemory, Refusal};
+use std::alloc::Global;
+
+/// The most bytes that a line may have.
+pub(crate) const LONGEST_LINE: usize = 65536;
+
+/// Answers a line: with no reply where it is blank or a comment, and else by carrying out its command.
+///
+/// # Errors
+///
+/// `NoMemory` leaves the store as it was.
+#[tactic(auto, unfolding(crate::specs::Answers::answer))]
+pub(crate) fn answer_line(
+    alloc: Global,
+    store: &mut Store,
+    line: &[u8],
+) -> Result<Option<Reply>, NoMemory>
+    ensures ok { IfOk result (λ reply. answer store.old line.now ≡ record { entries = store.new; reply = reply }) }
+    ensures err { OnErr result (store.new ≡ store.old) }
+{
+    if line.len() > LONGEST_LINE {
+        return Ok(Some(no_command(1)));
+    }
+    if is_quiet(line) {
+        return Ok(None);
+    }
+    match read(alloc, line)? {
+        Reading::Command(command) => Ok(Some(carry_out(alloc, store, command)?)),
+        Reading::Past(_) | Reading::LongName => Ok(Some(no_command(1))),
+        Reading::Refused(column) => Ok(Some(no_command(column as u32))),
+    }
+}
+
+/// The reply to a line that reads as no command.
+fn no_command(column: u32) -> Reply
+    ensures { result ≡ Reply.Refused (Refusal.Syntax column) }
+{
+    Reply::Refused(Refusal::Syntax(column))
+}
+
+/// Whether the line is blanks, or its first other byte is `#`.
+fn is_quiet(line: &[u8]) -> bool
+    ensures { result ≡ quiet_test line.now }
+{
+    for byte in line {
+        if !is_blank(*byte) {
+            return *byte == b'#';
+        }
+    }
+    true
+}
+
+/// Carries out a command: a change of the store, or a query.
+///
+/// # Errors
+///
+/// `NoMemory` leaves the store as it was.
+#[tactic(auto, unfolding(crate::specs::Answers::step))]
+fn carry_out(alloc: Global, store: &mut Store, command: Command) -> Result<Reply, NoMemory>
+    requires { HasPlainNames command }
+    ensures ok { IfOk result (λ reply. carry_out store.old command ≡ record { entries = store.new; reply = Some reply }) }
+    ensures err { OnErr result (store.new ≡ store.old) }
+{
+    if touches_base(&command) {
+        return Ok(no_command(1));
+    }
+    if let Some(rule) = queried(&command) {
+        return query(alloc, store, rule);
+    }
+    change_store(alloc, store, command)
+}
+
+/// The rule whose status the command asks for.
+fn queried(command: &Command) -> Option<&Name>
+    ensures { option_copied result ≡ asked_for command.now }
+{
+    match command {
+        Command::Status { rule } => Some(rule),
+        _ => None,
+    }
+}
+
+/// Carries out a change.
+///
+/// # Errors
+///
+/// `NoMemory` leaves the store as it was.
+fn change_store(alloc: Global, store: &mut Store, command: Command) -> Result<Reply, NoMemory>
+    requires plain { HasPlainNames command }
+    requires other { base_test command ≡ false }
+    ensures ok { IfOk result (λ reply. outcome store.old command (refusal store.old command) ≡ record { entries = store.new; reply = reply }) }
+    ensures err { OnErr result (store.new ≡ store.old) }
+{
+    match apply(alloc, store, command) {
+        Ok(()) => Ok(Reply::Accepted),
+        Err(EditFault::Refused(refused)) => Ok(Reply::Refused(refused)),
+        Err(EditFault::NoMemory) => Err(NoMemory),
+    }
+}
+
+/// Whether the command would declare the base theory, or something in it, or one of its constants.
+fn touches_base(command: &Command) -> bool
+    ensures { result ≡ base_test command.now }
+{
+    match command {
+        Command::Theory { unit } => is_base(unit.bytes()),
+        Command::Constant { unit, name, .. } => {
+            is_base(unit.bytes()) || is_base_constant(name.bytes())
+        }
+        Command::Axiom { unit, .. } | Command::Rule { unit, .. } => is_base(unit.bytes()),
+        _ => false,
+    }
+}
+
+/// What is known of a rule.
+///
+/// # Errors
+///
+/// `NoMemory`.
+fn query(alloc: Global, store: &Store, rule: &Name) -> Result<Reply, NoMemory>
+    ensures { IfOk result (λ reply. query_outcome store.now rule.now (finite.get store.now.rules rule.now) ≡ record { entries = store.now; reply = reply }) }
+{
+    match (store.rule(rule), status(alloc, store, rule)?) {
+        (Some(statement), Some(status)) => Ok(Reply::Page(status_page(
+            alloc, rule, statement, status,
+        )?)),
+        _ => Ok(Reply::Refused(Refusal::Unknown(rule.copy(alloc)?))),
+    }
+}
+
+/// The page that tells the status of a rule with this statement.
+fn status_page(
+    alloc: Global,
+    rule: &Name,
+    statement: &Statement,
+    status: RuleStatus,
+) -> Result<Bytes, NoMemory>
+    ensures { IfOk result (λ page. page ≡ status_page rule.now statement.now status) }
+{
+    let mut page = Vec::from_slice(alloc, rule.bytes())?;
+    let sort: &[u8] = if statement.is_axiom {
+        b" axiom "
+    } else {
+        b" rule "
+    };
+    page.extend_from_slice(sort)?;
+    page.extend_from_slice(status.word().as_bytes())?;
+    page.push(b'\n')?;
+    Ok(Bytes::from_vec(page))
+}

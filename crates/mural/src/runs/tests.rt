@@ -1,0 +1,266 @@
+mod examples;
+mod transcripts;
+
+use super::*;
+use examples::{FIRST, FIRST_REPLIES, examples};
+use mu_outside::{Desk, Faults};
+use mu_tree::{Bytes, NoMemory, Numbers};
+use std::test::Fail;
+use transcripts::transcripts;
+
+fn desk(alloc: Global, input: &[u8], takes: &[u64], tells: &[u64]) -> Result<Desk, NoMemory> {
+    let input = Bytes::from_vec(Vec::from_slice(alloc, input)?);
+    let faults = Faults {
+        takes: Numbers::from_vec(Vec::from_slice(alloc, takes)?),
+        tells: Numbers::from_vec(Vec::from_slice(alloc, tells)?),
+        disks: Numbers::new(alloc),
+    };
+    Desk::new(alloc, input, Bytes::new(alloc), faults)
+}
+
+/// An outside that moves one byte at a time.
+struct Drip {
+    desk: Desk,
+}
+
+impl Outside for Drip {
+    ghost use Rattle.mu_outside.specs.Desks.{known_by};
+
+    ghost observed = { λ drip. known_by drip.desk };
+
+    fn take(&mut self, buf: &mut [u8]) -> Result<usize, Failed> {
+        let mut one = [0];
+        let taken = self.desk.take(&mut one)?;
+        buf[0] = one[0];
+        Ok(taken)
+    }
+
+    fn tell(&mut self, piece: &[u8]) -> Result<usize, Failed> {
+        self.desk.tell(&piece[..1])
+    }
+}
+
+/// An input of so many blanks, in memory that does not grow with it.
+#[derive(Drop)]
+struct Blanks {
+    left: u64,
+}
+
+impl Outside for Blanks {
+    ghost use Rattle.std.specs.Prelude.{None};
+
+    ghost observed = { λ blanks. record { left = None; told = None; read_faults = 0; tell_faults = 0 } };
+
+    fn take(&mut self, buf: &mut [u8]) -> Result<usize, Failed> {
+        buf.fill(b' ');
+        let taken = self.left.min(buf.len() as u64);
+        self.left -= taken;
+        Ok(taken as usize)
+    }
+
+    fn tell(&mut self, piece: &[u8]) -> Result<usize, Failed> {
+        Ok(piece.len())
+    }
+}
+
+#[test]
+fn takes_no_words(rt: HostRuntime) -> Result<(), Fail> {
+    let mut desk = desk(rt.alloc(), FIRST, &[], &[])?;
+    let words = vec![in rt.alloc(); String::from_str(rt.alloc(), "j")?]?;
+    assert_eq!(rt; run(rt.alloc(), words.as_slice(), &mut desk), Status::Usage);
+    assert!(rt; desk.told().is_empty());
+    assert_eq!(rt; run(rt.alloc(), &[], &mut desk), Status::AllAccepted);
+    Ok(())
+}
+
+#[test]
+fn stops_at_a_call_that_fails(rt: HostRuntime) -> Result<(), Fail> {
+    let alloc = rt.alloc();
+    for (number, told) in [(1, 0), (2, FIRST_REPLIES.len())] {
+        let mut desk = desk(alloc, FIRST, &[number], &[])?;
+        assert_eq!(rt;
+            run(alloc, &[], &mut desk),
+            Status::ReadFault,
+            "take {number}"
+        );
+        assert_eq!(rt; desk.told().len(), told, "take {number}");
+    }
+    for (number, told) in [(1, 0), (2, 3), (3, 6), (4, 9)] {
+        let mut desk = desk(alloc, FIRST, &[], &[number])?;
+        assert_eq!(rt;
+            run(alloc, &[], &mut desk),
+            Status::TellFault,
+            "tell {number}"
+        );
+        assert_eq!(rt; desk.told().len(), told, "tell {number}");
+    }
+    Ok(())
+}
+
+#[test]
+fn moves_one_byte_at_a_time(rt: HostRuntime) -> Result<(), Fail> {
+    let mut drip = Drip {
+        desk: desk(rt.alloc(), FIRST, &[], &[])?,
+    };
+    assert_eq!(rt; run(rt.alloc(), &[], &mut drip), Status::AllAccepted);
+    let Drip { desk } = drip;
+    assert!(rt; desk.told() == FIRST_REPLIES);
+    Ok(())
+}
+
+/// Whether an input is answered with these replies, and ends as they say.
+fn is_told(alloc: Global, input: &[u8], replies: &[u8]) -> Result<bool, NoMemory> {
+    let mut desk = desk(alloc, input, &[], &[])?;
+    let is_refused = replies
+        .split(|byte| *byte == b'\n')
+        .any(|line| line.starts_with(b"refused "));
+    let status = run(alloc, &[], &mut desk);
+    Ok(status == done(is_refused) && desk.told() == replies)
+}
+
+/// Whether the lines of a transcript have the replies that it has below them.
+fn is_right(alloc: Global, transcript: &[u8]) -> Result<bool, NoMemory> {
+    let mut input = Vec::new(alloc);
+    let mut replies = Vec::new(alloc);
+    for line in transcript.split_inclusive(|byte| *byte == b'\n') {
+        match line {
+            [b'>', b' ', command @ ..] => input.extend_from_slice(command)?,
+            _ => replies.extend_from_slice(line)?,
+        }
+    }
+    is_told(alloc, &input, &replies)
+}
+
+#[test]
+fn answers_as_in_the_transcripts(rt: HostRuntime) -> Result<(), Fail> {
+    for (number, transcript) in transcripts().iter().enumerate() {
+        assert!(rt; is_right(rt.alloc(), transcript)?, "transcript {number}");
+    }
+    Ok(())
+}
+
+#[test]
+fn answers_as_in_the_examples(rt: HostRuntime) -> Result<(), Fail> {
+    for (number, (input, replies)) in examples().iter().enumerate() {
+        assert!(rt; is_told(rt.alloc(), input, replies)?, "example {number}");
+    }
+    Ok(())
+}
+
+#[test]
+fn refuses_one_line_more_than_a_proof_has(rt: HostRuntime) -> Result<(), Fail> {
+    let alloc = rt.alloc();
+    let mut input = String::from_str(alloc, "proof r m\n")?;
+    let mut replies = String::from_str(alloc, "ok\n")?;
+    for number in 0u32..4096 {
+        writeln!(input, "line r m l{number} in root : p")?;
+        replies.push_str("ok\n")?;
+    }
+    input.push_str(ONE_MORE)?;
+    replies.push_str(ONE_MORE_REPLIES)?;
+    assert!(rt; is_told(alloc, input.as_bytes(), replies.as_bytes())?);
+    Ok(())
+}
+
+const ONE_MORE: &str = "\
+line r m l in root : p
+line r m l0 in root : p
+line r m l in root before l : p
+line r m l in l0 : p
+";
+
+const ONE_MORE_REPLIES: &str = "\
+refused too-many items
+refused taken l0
+refused unknown l
+refused unknown l0
+";
+
+#[test]
+fn reads_lines_of_65536_bytes(rt: HostRuntime) -> Result<(), Fail> {
+    let alloc = rt.alloc();
+    let mut input = Vec::from_slice(alloc, b"theory t")?;
+    input.resize(65536, b' ')?;
+    input.extend_from_slice(b"\ntheory u")?;
+    input.resize(65536 + 65538, b' ')?;
+    input.extend_from_slice(b"\ntheory u\n")?;
+    let mut desk = desk(alloc, &input, &[], &[])?;
+    assert_eq!(rt; run(alloc, &[], &mut desk), Status::SomeRefused);
+    assert!(rt; desk.told() == b"ok\nrefused syntax 1\nok\n".as_slice());
+    Ok(())
+}
+
+/// Adds a line that states an axiom: a name, so many times each of these, and an end.
+fn add_axiom(input: &mut Vec<u8>, name: &[u8], parts: &[(&[u8], usize)]) -> Result<(), NoMemory> {
+    input.extend_from_slice(b"axiom t ")?;
+    input.extend_from_slice(name)?;
+    input.extend_from_slice(b" : ")?;
+    for (text, count) in parts {
+        for _ in 0..*count {
+            input.extend_from_slice(text)?;
+        }
+    }
+    input.push(b'\n')?;
+    Ok(())
+}
+
+#[test]
+fn reads_large_trees(rt: HostRuntime) -> Result<(), Fail> {
+    let alloc = rt.alloc();
+    let mut input = Vec::from_slice(alloc, b"theory t\nconst t p -> e\nconst t f(e) -> e\n")?;
+    input.extend_from_slice(b"const t wide(e")?;
+    for _ in 1..4095 {
+        input.extend_from_slice(b", e")?;
+    }
+    input.extend_from_slice(b") -> e\n")?;
+    let open: &[u8] = b"f(";
+    let wide: &[u8] = b"wide(";
+    let more: &[u8] = b"p, ";
+    let (p, close): (&[u8], &[u8]) = (b"p", b")");
+
+    // 4,096 nodes and 4,097; depth 200 and 201; 400 open levels, 401, and a chain of 4,096 nodes
+    add_axiom(
+        &mut input,
+        b"a",
+        &[(wide, 1), (more, 4094), (p, 1), (close, 1)],
+    )?;
+    add_axiom(
+        &mut input,
+        b"b",
+        &[(wide, 1), (more, 4095), (p, 1), (close, 1)],
+    )?;
+    add_axiom(&mut input, b"c", &[(open, 199), (p, 1), (close, 199)])?;
+    add_axiom(&mut input, b"d", &[(open, 200), (p, 1), (close, 200)])?;
+    add_axiom(&mut input, b"g", &[(open, 400), (p, 1), (close, 400)])?;
+    add_axiom(&mut input, b"h", &[(open, 401), (p, 1), (close, 401)])?;
+    add_axiom(&mut input, b"i", &[(open, 4095), (p, 1), (close, 4095)])?;
+    input.extend_from_slice(b"status a\nstatus c\n")?;
+    let mut desk = desk(alloc, &input, &[], &[])?;
+    assert_eq!(rt; run(alloc, &[], &mut desk), Status::SomeRefused);
+    assert!(rt; desk.told() == LARGE_REPLIES);
+    Ok(())
+}
+
+const LARGE_REPLIES: &[u8] = b"\
+ok
+ok
+ok
+ok
+ok
+refused syntax 1
+ok
+refused syntax 1
+refused syntax 1
+refused syntax 814
+refused syntax 814
+a axiom established
+c axiom established
+";
+
+#[test]
+fn gives_up_behind_2_to_the_28_bytes(rt: HostRuntime) {
+    let mut blanks = Blanks {
+        left: MOST_INPUT + 1,
+    };
+    assert_eq!(rt; run(rt.alloc(), &[], &mut blanks), Status::InputTooLong);
+}

@@ -1,0 +1,217 @@
+// The examples of the documents and what they print, as tools/examples writes them here.
+
+/// Each example with its replies.
+pub(super) fn examples() -> [(&'static [u8], &'static [u8]); 4] {
+    [
+        (FIRST, FIRST_REPLIES),
+        (PROPOSITIONS, PROPOSITIONS_REPLIES),
+        (REFUSALS, REFUSALS_REPLIES),
+        (TUTORIAL, TUTORIAL_REPLIES),
+    ]
+}
+
+pub(super) const FIRST: &[u8] = b"\
+theory prop
+const prop p -> e
+axiom prop ap : p
+status ap
+";
+
+pub(super) const FIRST_REPLIES: &[u8] = b"\
+ok
+ok
+ok
+ap axiom established
+";
+
+pub(super) const PROPOSITIONS: &[u8] = b"\
+# A theory of propositions, and a rule that is derived in it.
+theory prop
+const prop conj(e, e) -> e
+axiom prop conj_left : conj(?p, ?q) |- ?p
+axiom prop conj_right : conj(?p, ?q) |- ?q
+axiom prop conj_intro : ?p; ?q |- conj(?p, ?q)
+rule prop conj_swap : conj(?p, ?q) |- conj(?q, ?p)
+
+# The proof is begun at its end. It is not finished yet.
+proof conj_swap m
+line conj_swap m both in root : conj(?q, ?p)
+cite conj_swap m both : rule conj_intro from first, second with ?p := ?q; ?q := ?p
+status conj_swap
+
+# What the last line stands on comes before it.
+line conj_swap m first in root before both : ?q
+line conj_swap m second in root before both : ?p
+cite conj_swap m first : rule conj_right from #1 with ?p := ?p; ?q := ?q
+cite conj_swap m second : rule conj_left from #1 with ?p := ?p; ?q := ?q
+status conj_swap
+";
+
+pub(super) const PROPOSITIONS_REPLIES: &[u8] = b"\
+ok
+ok
+ok
+ok
+ok
+ok
+ok
+ok
+ok
+conj_swap rule incomplete
+ok
+ok
+ok
+ok
+conj_swap rule established
+";
+
+pub(super) const REFUSALS: &[u8] = b"\
+# A theory with two constants, an axiom, and two rules with a proof each.
+theory prop
+const prop p -> e
+const prop holds(e) -> e
+axiom prop good : p
+axiom prop bad : q
+rule prop a : p
+rule prop b : p
+proof a m
+line a m l in root : p
+proof b m
+line b m l in root : p
+cite a m l : rule b
+status good
+status bad
+status a
+status b
+
+# What is no command is refused with the column from which it is none.
+theory
+theory prop.more
+const prop q -> z
+axiom prop ugly : p q
+line a m k in root before : p
+
+# The base theory stays as it is.
+theory base
+const prop true -> e
+
+# What must be there, and what must not.
+theory prop
+const nope q -> e
+const prop p -> e
+axiom prop good : true
+proof a m
+line a m l in root : p
+line a m k in box : p
+line a m k in root before x : p
+cite a m k : rule good
+status nope
+
+# A citation that would close a circle.
+cite b m l : rule a
+";
+
+pub(super) const REFUSALS_REPLIES: &[u8] = b"\
+ok
+ok
+ok
+ok
+ok
+ok
+ok
+ok
+ok
+ok
+ok
+ok
+good axiom established
+bad axiom ill-formed
+a rule complete
+b rule incomplete
+refused syntax 7
+refused syntax 8
+refused syntax 17
+refused syntax 21
+refused syntax 27
+refused syntax 1
+refused syntax 1
+refused taken prop
+refused unknown nope
+refused taken p
+refused taken good
+refused taken m
+refused taken l
+refused unknown box
+refused unknown x
+refused unknown k
+refused unknown nope
+refused circle a
+";
+
+pub(super) const TUTORIAL: &[u8] = b"\
+theory prop
+const prop p -> e
+const prop q -> e
+const prop conj(e, e) -> e
+axiom prop both : ?a; ?b |- conj(?a, ?b)
+axiom prop p_holds : p
+axiom prop if_p_then_q : p |- q
+rule prop goal : conj(p, q)
+status goal
+proof goal m
+line goal m end in root : conj(p, q)
+cite goal m end : rule both from one, two with ?a := p; ?b := q
+status goal
+line goal m one in root before end : p
+line goal m two in root before end : q
+cite goal m one : rule p_holds
+cite goal m two : rule step from one
+status goal
+cite goal m two : rule if_p_then_q from one
+status goal
+rule prop later : q
+rule prop again : q
+proof again m
+line again m end in root : q
+cite again m end : rule later
+status again
+proof later m
+line later m end in root : q
+cite later m end : rule again
+status later
+cite later m end : rule if_p_then_q form p_holds
+";
+
+pub(super) const TUTORIAL_REPLIES: &[u8] = b"\
+ok
+ok
+ok
+ok
+ok
+ok
+ok
+ok
+goal rule unproved
+ok
+ok
+ok
+goal rule incomplete
+ok
+ok
+ok
+ok
+goal rule incomplete
+ok
+goal rule established
+ok
+ok
+ok
+ok
+ok
+again rule complete
+ok
+ok
+refused circle again
+later rule incomplete
+refused syntax 37
+";
