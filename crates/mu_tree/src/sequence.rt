@@ -101,6 +101,24 @@ impl<T: Drop> Sequence<T> {
         Ok(())
     }
 
+    /// The same items in a list that has no more room than they need.
+    ///
+    /// # Errors
+    ///
+    /// `NoMemory`.
+    pub fn fit(self, alloc: Global) -> Result<Sequence<T>, NoMemory>
+        ensures { IfOk result (λ list. list ≡ self) }
+    {
+        if self.items.len() == self.items.capacity() {
+            return Ok(self);
+        }
+        let mut items = Vec::with_capacity(alloc, self.items.len())?;
+        for item in self.items {
+            items.push(item)?;
+        }
+        Ok(Sequence { items })
+    }
+
     /// Keeps the first `count` items.
     pub fn truncate(&mut self, count: usize)
         ensures { self.new ≡ take count self.old }
