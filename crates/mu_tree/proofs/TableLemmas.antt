@@ -42,7 +42,8 @@ no_length : {A : Type 0} (es : List A) → length es ≡ 0 → es ≡ []
 no_length [] e = refl
 no_length (x ∷ es) e = absurd (omega arith)
 
-no_entries : {V : Type 0} → entries (empty {X = V} {R = slice_cmp nat_cmp}) ≡ []
+-- the empty map has no entries
+pub no_entries : {V : Type 0} → entries (empty {X = V} {R = slice_cmp nat_cmp}) ≡ []
 no_entries {V} = no_length _ (sym (len-entries empty) ∙ len-empty (slice_cmp nat_cmp) V)
 
 -- entries in order are those of the map that they make
