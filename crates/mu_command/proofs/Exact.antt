@@ -1,16 +1,16 @@
 -- Commands are read exactly.
-use Rattle.std.proofs.Common.{◌≡◌, ℕ, Bool, true, false, List, [], ◌∷◌, ◌++◌, Some, refl, ap, sym, ◌∙◌, subst, append-nil}
-use Rattle.std.specs.Prelude.{find, cond, codes}
+use Rattle.std.proofs.Common.{◌≡◌, ℕ, Bool, List, [], ◌∷◌, ◌++◌, refl, ap, sym, ◌∙◌, subst, append-nil}
+use Rattle.std.specs.Prelude.{codes}
 use Rattle.mu_text.specs.declared.symbol.Mark.{Mark}
 use Rattle.mu_text.specs.declared.symbol.Mark.TheVariants.{Arrow, Colon}
 use Rattle.mu_text.specs.Lexemes.{Lexeme, word, mark}
 use Rattle.mu_text.specs.declared.symbol.Word.TheVariants.{Plain}
-use Rattle.mu_text.specs.Parts.{Nothing, OneToken, End, given_back, Then, chain, token}
+use Rattle.mu_text.specs.Parts.{Nothing, End, given_back, Then, chain}
 use Rattle.mu_text.specs.Rows.{Values, SpellsRow}
-use Rattle.mu_text.specs.SimpleParts.{is_word, name_of, has_bytes, AnyName, GivenWord, read_word, read_name}
+use Rattle.mu_text.specs.SimpleParts.{is_word, AnyName, GivenWord, read_word, read_name}
 use Rattle.mu_text.specs.Groups.{Optional}
 use Rattle.mu_text.proofs.Exact.{Exact, Exact-same, Exact-chain, Exact-pure, Exact-token}
-use Rattle.mu_text.proofs.Simple.{Any, Exact-mark, Exact-name, Exact-plain_name, Exact-kind, Exact-word, from_bytes, is_own_word}
+use Rattle.mu_text.proofs.Simple.{Any, Exact-mark, Exact-name, Exact-plain_name, Exact-kind, Exact-word, is_own_word}
 use Rattle.mu_text.proofs.Choice.{Passes, Fails}
 use Rattle.mu_text.proofs.Complete.{Follows}
 use Rattle.mu_text.proofs.Trees.{Exact-tree}
@@ -20,39 +20,13 @@ use Rattle.mu_text.proofs.Groups.{NoOpen, Exact-argument_kinds, Exact-optional}
 use Rattle.mu_text.proofs.Rows as rows
 use Rattle.mu_command.specs.declared.forms.Form.{Form}
 use Rattle.mu_command.specs.declared.forms.Form.TheVariants.{Theory, Constant, Axiom, Rule, Proof, Line, Cite, Status}
-use Rattle.mu_command.specs.Forms.{keyword, forms, form_of, FormWord, read_form}
+use Rattle.mu_command.specs.Forms.{form_of, FormWord, read_form}
 use Rattle.mu_command.specs.Parts.{Part, name, plain, given, sign, kind, arguments, before, tree, claim, reason, Value, IsBefore, SpellsPart, read_before, read_part}
 use Rattle.mu_command.specs.Grammar.{row, Spelled, Written, Spells, read_parts, read_command}
 
--- what is found passes the test
-found_passes : {A : Type 0} (test : A → Bool) (xs : List A) (x : A) → find test xs ≡ Some x → test x ≡ true
-found_passes test [] x e = cc
-found_passes test (y ∷ xs) x e = by_first (test y) refl e (found_passes test xs x)
-  where
-    by_first : (b : Bool) → test y ≡ b → cond b (Some y) (find test xs) ≡ Some x → (find test xs ≡ Some x → test x ≡ true) → test x ≡ true
-    by_first true i e later = let same : y ≡ x = cc in subst (λ z. test z ≡ true) same i
-    by_first false i e later = later e
-
--- the word of a form is its own alone
-own_form : (form : Form) → find (λ other. has_bytes (keyword other) (Some (keyword form))) forms ≡ Some form
-own_form Theory = refl
-own_form Constant = refl
-own_form Axiom = refl
-own_form Rule = refl
-own_form Proof = refl
-own_form Line = refl
-own_form Cite = refl
-own_form Status = refl
-
-to_word : (ts : List Lexeme) (form : Form) → OneToken form_of ts form → FormWord ts form
-to_word ts form g = (g.0, g.1, from_bytes (keyword form) (name_of g.0) (found_passes (λ other. is_word (keyword other) g.0) forms form g.2))
-
-from_word : (ts : List Lexeme) (form : Form) → FormWord ts form → OneToken form_of ts form
-from_word ts form g = (g.0, g.1, ap (λ o. find (λ other. has_bytes (keyword other) o) forms) g.2 ∙ own_form form)
-
 pub Exact-form : Exact read_form FormWord Any
 unfolding read_form
-Exact-form = Exact-same (token form_of) (OneToken form_of) FormWord Any to_word from_word (Exact-token form_of (word Plain (keyword Theory)) Theory refl Any)
+Exact-form = Exact-token form_of (word Plain (codes "theory")) Theory refl Any
 
 -- whether the token is the word `before`
 abbrev is_before_word : Lexeme → Bool

@@ -78,7 +78,7 @@ fn plain_name_bytes<'a>(reader: &'a Reader) -> Option<&'a [u8]>
     }
 }
 
-fn name_bytes<'a>(reader: &'a Reader) -> Option<&'a [u8]>
+pub fn name_bytes<'a>(reader: &'a Reader) -> Option<&'a [u8]>
     ensures { MatchOption result (first_as name_of reader.now ≡ None) (λ name. first_as name_of reader.now ≡ Some name.now) }
 {
     match reader.peek() {
