@@ -1,6 +1,6 @@
 -- What reading a line says of it.
 use Rattle.std.proofs.Common.{◌≡◌, ℕ, ◌-◌, Bool, true, false, List, [], ◌∷◌, length, drop, refl, ap, sym, ◌∙◌, arith}
-use Rattle.std.specs.Prelude.{◌<◌, ◌≤◌, ◌&&◌, ◌==◌, if◌then◌else◌, nat_le, Option, Some, None}
+use Rattle.std.specs.Prelude.{◌<◌, ◌≤◌, ◌&&◌, ◌==◌, if◌then◌else◌, nat_le, Option, Some, None, Ok}
 use Rattle.std.specs.List.{list_all, AllByRecursion}
 use Rattle.std.proofs.lemmas.Bool.{false≢true, and_parts}
 use Rattle.std.proofs.lemmas.Bool.Decides.{nat_tests}
@@ -19,21 +19,20 @@ use Rattle.mu_text.specs.declared.token.TokenSort.TheVariants.{Name, Meta, Place
 use Rattle.mu_text.specs.Reading.{text_of, is_meta}
 use Rattle.mu_text.specs.Tokens.{tokens}
 use Rattle.mu_text.specs.Lexemes.{Lexeme, item, items, items_of, item_of, sort_in, word_in}
-use Rattle.mu_text.specs.Parts.{Out, found, stopped, Read}
+use Rattle.mu_text.specs.Parts.{Out, found, stopped}
 use Rattle.mu_text.proofs.Facts.{IsTokenOf, tokens_hold}
 use Rattle.mu_text.proofs.Whole.{reads_exactly, only_value}
 use Rattle.mu_command.specs.declared.readings.Reading.{Reading}
 use Rattle.mu_command.specs.declared.readings.Reading.TheVariants as reading
 use Rattle.mu_text.specs.Limits.{WithinToken, WithinTokens}
 use Rattle.mu_text.specs.declared.excess.Excess.{Excess}
-use Rattle.mu_text.specs.declared.excess.Measured.{Measured}
 use Rattle.mu_text.specs.Excesses.{excess_of, no_excess}
-use Rattle.mu_text.proofs.Excesses.{same_excess}
+use Rattle.mu_text.proofs.Excesses.{same_excess, raised-none}
 use Rattle.mu_command.specs.declared.command.Command.{Command}
-use Rattle.mu_command.specs.Grammar.{Written, Spells, StandsCommand, command_of, trees_of_command, read_command}
+use Rattle.mu_command.specs.Grammar.{Written, Spells, GivesCommand, command_of, trees_of_command, read_command}
 use Rattle.mu_command.specs.Readings.{AreWithin, IsRead, ReadingIsExact, Says, first_limit, limit_of, within_limits, segments_of, is_short_token, has_short_tokens, column, read_as, reading_of}
 use Rattle.mu_command.proofs.Exact.{Exact-command}
-use Rattle.mu_command.proofs.Meant.{command_excess, command_value}
+use Rattle.mu_command.proofs.Meant.{command_meant}
 
 no_dot : (byte : ℕ) → is_name_byte byte ≡ true → (byte == 46) ≡ false
 no_dot byte e = grind (arith, nat_tests)
@@ -143,11 +142,11 @@ none_left [] e = refl
 none_left (T ∷ rest) e = absurd (omega arith)
 
 -- what the code answers of a command that is read to the end is what the line reads as
-pub read_value : (line : List ℕ) (m : Measured Command) (rest : List Lexeme) (answer : Reading) → Read StandsCommand (read_command (items_of line)) m rest → length rest ≡ 0
-    → answer ≡ within_limits (first_limit (has_short_tokens line) m.excess) m.value → answer ≡ reading_of line
+pub read_value : (line : List ℕ) (c : Command) (e : Excess) (rest : List Lexeme) (answer : Reading) → GivesCommand no_excess e (items_of line) (Ok c) rest → length rest ≡ 0
+    → answer ≡ within_limits (first_limit (has_short_tokens line) e) c → answer ≡ reading_of line
 unfolding reading_of
-read_value line m rest answer read none is =
-    is ∙ (ap (λ e. within_limits (first_limit (has_short_tokens line) e) m.value) (command_excess read.value m read.stands)
+read_value line c e rest answer read none is =
+    is ∙ (ap (λ x. within_limits (first_limit (has_short_tokens line) x) c) (read.stands.1 ∙ raised-none (trees_of_command read.value))
     ∙ (by_limit (limit_of line read.value) refl ∙ sym (ap (read_as line) whole)))
   where
     whole : read_command (items_of line) ≡ found read.value []
@@ -156,8 +155,8 @@ read_value line m rest answer read none is =
     spells : Spells (items_of line) read.value
     spells = reads_exactly read_command Spells Exact-command (items_of line) (found read.value []) whole
 
-    by_limit : (passed : Option LimitWord) → limit_of line read.value ≡ passed → within_limits passed m.value ≡ within_limits passed (command_of read.value)
-    by_limit None e =
-        let within = none_past (has_short_tokens line) (excess_of (trees_of_command read.value)) e in
-        ap (λ c. reading.Command c) (command_value read.value (items_of line) m spells (line_kept line within.0) read.stands within.1)
-    by_limit (Some word) e = refl
+    by_limit : (passed : Option LimitWord) → limit_of line read.value ≡ passed → within_limits passed c ≡ within_limits passed (command_of read.value)
+    by_limit None i =
+        let within = none_past (has_short_tokens line) (excess_of (trees_of_command read.value)) i in
+        ap (λ x. reading.Command x) (command_meant read.value (items_of line) c spells (line_kept line within.0) read.stands.0 within.1)
+    by_limit (Some word) i = refl

@@ -7,7 +7,7 @@ ghost use Rattle.mu_command.specs.Readings.{AreWithin, ReadingIsExact, column, c
 
 use crate::command::Command;
 use crate::grammar::read_command;
-use mu_text::{Excess, Measured, PartFault, Reader, Token, TokenSort, Tokens, text};
+use mu_text::{Excess, PartFault, Reader, Token, TokenSort, Tokens, text};
 use mu_tree::{LimitWord, NoMemory, is_short};
 use std::alloc::Global;
 
@@ -35,10 +35,12 @@ pub fn read(alloc: Global, line: &[u8]) -> Result<Reading, NoMemory>
 {
     let tokens = Tokens::read(alloc, line)?;
     let mut reader = Reader::new(line, tokens.items());
-    match read_command(alloc, &mut reader) {
+    let mut excess = Excess::none();
+    match read_command(alloc, &mut reader, &mut excess) {
         Ok(command) => {
             if reader.len() == 0 {
-                return Ok(within_limits(line, tokens.items(), command));
+                let passed = first_limit(are_short(line, tokens.items()), excess);
+                return Ok(within_limits(passed, command));
             }
             Ok(refused(line, tokens.items(), reader.len()))
         }
@@ -48,12 +50,11 @@ pub fn read(alloc: Global, line: &[u8]) -> Result<Reading, NoMemory>
 }
 
 /// The command, where no limit is passed.
-fn within_limits(line: &[u8], tokens: &[Token], command: Measured<Command>) -> Reading
-    ensures { result ≡ within_limits (first_limit (list_all (is_short_token line.now) tokens.now) command.excess) command.value }
+fn within_limits(passed: Option<LimitWord>, command: Command) -> Reading
+    ensures { result ≡ within_limits passed command }
 {
-    let Measured { value, excess } = command;
-    match first_limit(are_short(line, tokens), excess) {
-        None => Reading::Command(value),
+    match passed {
+        None => Reading::Command(command),
         Some(word) => Reading::Limit(word),
     }
 }
