@@ -74,7 +74,7 @@ step entries command = step_by entries command (queried command)
 -- the command would declare the base theory, or something in it, or one of its constants
 abbrev pub touches_base : Command → Bool
 touches_base (Theory unit) = is_base unit
-touches_base (Constant unit name arguments result) = is_base unit || is_base_constant name
+touches_base (Constant unit name shape result) = is_base unit || is_base_constant name
 touches_base (Axiom unit rule claim) = is_base unit
 touches_base (Rule unit rule claim) = is_base unit
 touches_base _ = false
