@@ -5,6 +5,7 @@ pub mod Lexemes
 pub mod Limits
 pub mod Machine
 pub mod Marks
+pub mod Ops
 pub mod Parts
 pub mod Reading
 pub mod Reads

@@ -22,7 +22,7 @@ use std::alloc::Global;
 pub fn tree(alloc: Global, reader: &mut Reader) -> Result<Operand, PartFault>
     ensures { Gives Stands (read_tree reader.old) result reader.new }
 {
-    reader.tree(alloc, MOST_NESTING)
+    reader.tree(alloc, MOST_NESTING, 0)
 }
 
 /// Reads a tree, and says which limits it passes.
