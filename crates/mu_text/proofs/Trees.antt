@@ -71,3 +71,9 @@ gives_tree old new (Ok o) h =
     record { value = w.writing; is = w.goes top ∙ stays_at w.writing new s; stands = w.stands }
 gives_tree old new (Err Mismatch) h = h.0 top
 gives_tree old new (Err NoMemory) h = tt
+
+-- the same where none is read
+pub stops_tree : {B : Type 0} (S : Writing → B → Type 0) (old new : List Lexeme) (e : PartFault) → ReadsTree 400 0 old (Err e) new → Gives S (read_tree old) (Err e) new
+unfolding read_tree
+stops_tree S old new Mismatch h = h.0 top
+stops_tree S old new NoMemory h = tt

@@ -1,4 +1,5 @@
 pub mod Claims
+pub mod Declarations
 pub mod Excesses
 pub mod Groups
 pub mod Lexemes
@@ -14,6 +15,7 @@ pub mod References
 pub mod Rows
 pub mod SimpleParts
 pub mod Spacing
+pub mod Texts
 pub mod Tokens
 pub mod Trees
 pub mod Writings

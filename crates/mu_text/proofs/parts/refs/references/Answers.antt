@@ -1,6 +1,7 @@
+use Rattle.mu_text.specs.References.{read_references}
 use Rattle.mu_text.proofs.References.{Exact-reference}
 use Rattle.mu_text.specs.declared.symbol.Mark.TheVariants.{Comma}
-use Rattle.mu_text.proofs.Turns.{fewer, start, turn}
+use Rattle.mu_text.proofs.Turns.{fewer, finish, refitted, start, turn}
 use Rattle.mu_text.proofs.parts.refs.references.Goals as goal
 
 pub loop-alloc-init : goal.loop-alloc-init
@@ -11,3 +12,7 @@ loop-alloc-preserved c = turn Exact-reference c.loop-alloc.invariant c.sees.ensu
 
 pub loop-alloc-smaller : goal.loop-alloc-smaller
 loop-alloc-smaller c = fewer Comma Exact-reference _ _ c.sees.ensures c.loop-alloc-test.true c.skip.ensures c.in_ok-next.ensures
+
+pub returns : goal.returns
+unfolding read_references
+returns c = refitted (finish c.loop-alloc.invariant c.sees.ensures c.loop-alloc-test.false) c.in_ok-fit.ensures
