@@ -3,11 +3,16 @@ use Rattle.std.proofs.Common.{◌≡◌, true, List, [], ◌∷◌, ◌++◌, in
 use Rattle.mu_text.specs.declared.symbol.Mark.{Mark}
 use Rattle.mu_text.specs.declared.symbol.Mark.TheVariants.{Semicolon, Turnstile}
 use Rattle.mu_text.specs.Lexemes.{Lexeme, mark}
-use Rattle.mu_text.specs.Parts.{Nothing, given_back, Then, chain, Made, mapped, Or, More, read_more}
+use Rattle.mu_text.specs.Parts.{Nothing, given_back, Then, chain, Made, mapped, Or, More, StandsEach, read_more}
 use Rattle.mu_text.specs.SimpleParts.{GivenMark, read_mark}
 use Rattle.mu_text.specs.Writings.{Writing}
 use Rattle.mu_text.specs.Trees.{OneTree, read_tree}
-use Rattle.mu_text.specs.Claims.{Hypothesis, plain, Sentence, IsHypothesis, IsClaim, goes_on, concluding, read_hypothesis, read_hypotheses, read_concluded, read_after, read_claim}
+use Rattle.mu_text.specs.Claims.{Hypothesis, plain, Sentence, IsHypothesis, IsClaim, StandsHypothesis, StandsClaim, trees_in_hypothesis, trees_in_claim, goes_on, concluding, read_hypothesis, read_hypotheses, read_concluded, read_after, read_claim}
+use Rattle.mu_text.specs.declared.excess.Excess.{Excess}
+use Rattle.mu_tree.specs.declared.claim.Hyp.{Hyp}
+use Rattle.mu_tree.specs.declared.trees.Tree.{Tree}
+use Rattle.mu_text.specs.Excesses.{raised, in_each, one_tree, Raising, StandsTree}
+use Rattle.mu_text.proofs.Excesses.{raised-append}
 use Rattle.mu_text.proofs.Choice.{Passes, Fails, Exact-either}
 use Rattle.mu_text.proofs.Complete.{Follows, MayFollow, plain_follows}
 use Rattle.mu_text.proofs.Exact.{Exact, Exact-same, Exact-chain, Exact-mapped, Exact-pure, Exact-before}
@@ -116,3 +121,8 @@ unfolding read_claim
 Exact-claim =
     Exact-same read_claim (Then IsHypothesis After) IsClaim NoClaim (λ ts y g. to_claim g.0 ts g.1 g.2 y g.3 g.4 g.5) (λ ts y g. from_claim ts y.hyps y.conclusion g)
     (Exact-chain read_hypothesis read_after IsHypothesis After Follows NoClaim Exact-hypothesis exact_after link_after)
+
+-- hypotheses and a conclusion, together
+pub claim_stands : (hs : List Hypothesis) (w : Writing) (start mid now : Excess) (hyps : List Hyp) (t : Tree) → Raising (StandsEach StandsHypothesis) (in_each trees_in_hypothesis) start mid hs hyps
+    → Raising StandsTree one_tree mid now w t → Raising StandsClaim trees_in_claim start now (concluding hs w) (record { hyps = hyps; conclusion = t })
+claim_stands hs w start mid now hyps t s r = ((s.0, r.0), r.1 ∙ (ap (raised (w ∷ [])) s.1 ∙ sym (raised-append (in_each trees_in_hypothesis hs) (w ∷ []) start)))

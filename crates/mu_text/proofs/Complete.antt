@@ -241,14 +241,14 @@ mutual
       ∙ (ap (run (want (n - 1) 0 (inside n m k))) (append_assoc (tokens w) (mark Close ∷ []) r) ∙ reads w (n - 1) 0 (inside n m k) (mark Close ∷ r) f.1 (omega arith) (plain_follows Close (level w) refl refl))
   reads (neg w) n m k r f h g =
       run_go (want n m k) (mark Not) (tokens w ++ r) (want (n - 1) prefix_level (negated n m k))
-          (rw (leb_yes m prefix_level h) (opened 1 n (want (n - 1) prefix_level (negated n m k)) (omega arith)))
+      (rw (leb_yes m prefix_level h) (opened 1 n (want (n - 1) prefix_level (negated n m k)) (omega arith)))
       ∙ (reads w (n - 1) prefix_level (negated n m k) r f.2 f.1 (follows-more prefix_level (level w) r f.1 g) ∙ negated_run w n m (n - 1) k r g)
   reads (bin T o a b) n m k r f h g =
       let s : Shape o = shape T o f.0 in
       let up : o.level ≤ level b = (let i : o.right ≤ level b = f.4 in grind (arith, s.side_right)) in
       let into : Mode = want (n - o.opens) o.right (right T o a n m k) in
       let found_it : step (have n m a k) T ≡ go into =
-          (rw (f.0) (taken n m a k T (close k a T) o h f.1 f.3)) in
+      (rw (f.0) (taken n m a k T (close k a T) o h f.1 f.3)) in
       ap (run (want n m k)) (append_assoc (tokens a) (T ∷ tokens b) r)
       ∙ (reads a n m k (T ∷ (tokens b ++ r)) f.2 (let i : o.left ≤ level a = f.1 in let j : m ≤ o.level = h in omega (arith, s.low)) (operator_follows T o (level a) f.0 f.1)
       ∙ (run_go (have n m a k) T (tokens b ++ r) into found_it

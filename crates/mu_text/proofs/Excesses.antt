@@ -62,8 +62,8 @@ pub tree_raised : (w : Writing) (o : Operand) (before now : Excess) → Stands w
 tree_raised w o before now s i j = (
   λ k. sym (s.tree_is k),
   same_excess now (raised (w ∷ []) before)
-  (i ∙ ap (λ b. before.nodes || b) (above (nodes w) o.size 4096 (omega arith) s.size_is))
-  (j ∙ ap (λ b. before.depth || b) (above (deep w) o.depth 200 (omega arith) s.depth_is)),
+      (i ∙ ap (λ b. before.nodes || b) (above (nodes w) o.size 4096 (omega arith) s.size_is))
+      (j ∙ ap (λ b. before.depth || b) (above (deep w) o.depth 200 (omega arith) s.depth_is)),
 )
 
 -- where a tree passes no limit and its names are within theirs, it is kept

@@ -247,7 +247,7 @@ operation_grows n m o (S ∷ q) mid new a b r left name f h i z s j w u e kept c
   writing = bin S o a w.writing;
   stands = stands_bin S o a w.writing left b r name s w.stands e kept c;
   goes = λ k. run_go (have n m a k) S q (want (n - o.opens) o.right (right S o a n m k))
-          (rw f (taken n m a k S (close k a S) o h (let g : level a ≡ left.level = s.level_is in omega arith) z))
+      (rw f (taken n m a k S (close k a S) o h (let g : level a ≡ left.level = s.level_is in omega arith) z))
       ∙ (ap (run (want (n - o.opens) o.right (right S o a n m k))) (sym j) ∙ (w.goes (right S o a n m k)
       ∙ ends_right S o a w.writing n m (n - o.opens) k new (ends_level o.right b.level w.writing new w.stands.level_is u)));
 }
@@ -480,9 +480,11 @@ Back s x n m old mid o = (vs : List Writing) × StandsBack vs o × ((k : Stack) 
 
 pub more_arguments : (s : Word) (x : List ℕ) (n m : ℕ) (old mid after new : List Lexeme) (o p : Several) (t : Operand) → Back s x n m old mid o → Goes (want (n - 1) 0) (have (n - 1) 0) mid after t → Added o t p
     → ending_of s (first_sort after) ≡ ends.GoesOn → new ≡ after_first after → Back s x n m old new p
-more_arguments s x n m old mid after new o p t b w a e j =
-    (w.writing ∷ b.0, stands_more b.0 w.writing o p t b.1 w.stands a,
-     λ k. b.2 k ∙ (w.goes (given s x b.0 n m k) ∙ (goes_on_first s x b.0 n m w.writing k after e ∙ ap (run (want (n - 1) 0 (given s x (w.writing ∷ b.0) n m k))) (sym j))))
+more_arguments s x n m old mid after new o p t b w a e j = (
+  w.writing ∷ b.0,
+  stands_more b.0 w.writing o p t b.1 w.stands a,
+  λ k. b.2 k ∙ (w.goes (given s x b.0 n m k) ∙ (goes_on_first s x b.0 n m w.writing k after e ∙ ap (run (want (n - 1) 0 (given s x (w.writing ∷ b.0) n m k))) (sym j))),
+)
 
 -- a closing bracket is no operator
 closing_plain : (s : Word) (T : Lexeme) → ending s T ≡ ends.Closes → binary T ≡ None
@@ -518,7 +520,7 @@ given_stops : (s : Word) (x : List ℕ) (vs : List Writing) (n m n' : ℕ) (w : 
 given_stops s x vs n m n' w k [] h e = refl
 given_stops s x vs n m n' w k (T ∷ r) h e =
     let f : step (have n' 0 w (given s x vs n m k)) T ≡ stop =
-        not_offered n' 0 w (given s x vs n m k) T (close (given s x vs n m k) w T) (binary T) h ∙ ap (close_given s x vs n m w k) e in
+    not_offered n' 0 w (given s x vs n m k) T (close (given s x vs n m k) w T) (binary T) h ∙ ap (close_given s x vs n m w k) e in
     rw (f, run) refl
 
 pub argument_unended : (s : Word) (x : List ℕ) (n m : ℕ) (old mid after : List Lexeme) (o : Several) (t : Operand) → Back s x n m old mid o → Goes (want (n - 1) 0) (have (n - 1) 0) mid after t

@@ -164,9 +164,13 @@ after_good N n m w k T other h f v g None e = g
 after_good N n m w k T other h f v g (Some p) e =
     pick (nat_le m p.level && nat_le p.left (level w)) (GoodNext N (before k ++ tokens w) T) (open_levels p.opens n (want (n - p.opens) p.right (right T p w n m k))) other
     (λ t. open_good N (before k ++ tokens w) T p.opens n (want (n - p.opens) p.right (right T p w n m k))
-        (λ i. ((shape_right p (shape T p e),
-                (e, le_from p.left (level w) (and_right (nat_le m p.level) (nat_le p.left (level w)) t), f, le_from m p.level (and_left (nat_le m p.level) (nat_le p.left (level w)) t), i, refl, refl, v)),
-               sym (append_assoc (before k) (tokens w) (T ∷ [])))))
+    (λ i. (
+      (
+        shape_right p (shape T p e),
+        (e, le_from p.left (level w) (and_right (nat_le m p.level) (nat_le p.left (level w)) t), f, le_from m p.level (and_left (nat_le m p.level) (nat_le p.left (level w)) t), i, refl, refl, v),
+      ),
+      sym (append_assoc (before k) (tokens w) (T ∷ [])),
+    )))
     (λ t. g)
   where
     shape_right : (q : Op) → Shape q → q.right ≤ atom_level
@@ -324,11 +328,11 @@ finish_good N k w n m v f h s (Some x) b e =
         let same : w ≡ x = cc in subst (λ (y : Writing). Fits N y × (tokens y ≡ tokens w)) same (move n N w v.0 f, refl)
     ended_good (right S o a n0 m0 k) w n m v f h x e =
         let p : Fits N x × (tokens x ≡ before k ++ tokens (bin S o a w)) =
-            ended_good k (bin S o a w) n0 m0 v.7 (v.0, v.1, v.2, v.4, (let g : m ≡ o.right = v.6 in omega arith), move n (n0 - o.opens) w v.5 f) v.3 x e in
+        ended_good k (bin S o a w) n0 m0 v.7 (v.0, v.1, v.2, v.4, (let g : m ≡ o.right = v.6 in omega arith), move n (n0 - o.opens) w v.5 f) v.3 x e in
         (p.0, p.1 ∙ simp append_assoc)
     ended_good (negated n0 m0 k) w n m v f h x e =
         let p : Fits N x × (tokens x ≡ before k ++ tokens (neg w)) =
-            ended_good k (neg w) n0 m0 v.4 (v.1, (let g : m ≡ prefix_level = v.3 in omega arith), move n (n0 - 1) w v.2 f) v.0 x e in
+        ended_good k (neg w) n0 m0 v.4 (v.1, (let g : m ≡ prefix_level = v.3 in omega arith), move n (n0 - 1) w v.2 f) v.0 x e in
         (p.0, p.1 ∙ simp append_assoc)
     ended_good (inside n0 m0 k) w n m v f h x e = cc
     ended_good (given y s vs n0 m0 k) w n m v f h x e = cc
@@ -344,12 +348,19 @@ end_good N (have n m w k) g = finish_good N k w n m g.2 g.1 g.0 (have n m w k) (
 
 earlier_answer : (N : ℕ) (s s' : Mode) (T : Lexeme) (r : List Lexeme) → step s T ≡ go s' → seen s' ≡ seen s ++ (T ∷ []) → (out : Out Writing)
     → Answers N s' (seen s') r out → Answers N s (seen s) (T ∷ r) out
-earlier_answer N s s' T r e i (found w rest) a =
-    (a.0, T ∷ a.1, ap (λ l. T ∷ l) a.2, a.3 ∙ (ap (λ l. l ++ a.1) i ∙ append_assoc (seen s) (T ∷ []) a.1),
-     λ S q other j. run_go s T (a.1 ++ (S ∷ other)) s' e ∙ a.4 S q other j)
-earlier_answer N s s' T r e i (stopped rest) a =
-    (T ∷ a.0, ap (λ l. T ∷ l) a.1, subst (Begins (IsTree N)) (ap (λ l. l ++ a.0) i ∙ append_assoc (seen s) (T ∷ []) a.0) a.2,
-     λ S q other j. run_go s T (a.0 ++ (S ∷ other)) s' e ∙ a.3 S q other j)
+earlier_answer N s s' T r e i (found w rest) a = (
+  a.0,
+  T ∷ a.1,
+  ap (λ l. T ∷ l) a.2,
+  a.3 ∙ (ap (λ l. l ++ a.1) i ∙ append_assoc (seen s) (T ∷ []) a.1),
+  λ S q other j. run_go s T (a.1 ++ (S ∷ other)) s' e ∙ a.4 S q other j,
+)
+earlier_answer N s s' T r e i (stopped rest) a = (
+  T ∷ a.0,
+  ap (λ l. T ∷ l) a.1,
+  subst (Begins (IsTree N)) (ap (λ l. l ++ a.0) i ∙ append_assoc (seen s) (T ∷ []) a.0) a.2,
+  λ S q other j. run_go s T (a.0 ++ (S ∷ other)) s' e ∙ a.3 S q other j,
+)
 
 abbrev onward : Next → Lexeme → List Lexeme → Out Writing
 onward x T r = elim x [ go s' ↦ run s' r | done w ↦ found w (T ∷ r) | stop ↦ stopped (T ∷ r) ]
@@ -360,12 +371,19 @@ run_next s T r x e = rw (e, run) refl
 next_good : (r : List Lexeme) (N : ℕ) (s : Mode) (T : Lexeme) → ((s' : Mode) → Good N s' → Answers N s' (seen s') r (run s' r)) → (x : Next) → step s T ≡ x → Good N s
     → GoodNext N (seen s) T x → Answers N s (seen s) (T ∷ r) (onward x T r)
 next_good r N s T ih (go s') e g h = earlier_answer N s s' T r e h.1 (run s' r) (ih s' h.0)
-next_good r N s T ih (done w) e g h =
-    (h.0, [], refl, h.1 ∙ sym (append-nil (seen s)),
-     λ S q other j. let same : T ≡ S = cc in subst (λ (U : Lexeme). run s (U ∷ other) ≡ found w (U ∷ other)) same (run_next s T other (done w) e))
-next_good r N s T ih stop e g h =
-    ([], refl, rw append-nil (alive N s g),
-     λ S q other j. let same : T ≡ S = cc in subst (λ (U : Lexeme). run s (U ∷ other) ≡ stopped (U ∷ other)) same (run_next s T other stop e))
+next_good r N s T ih (done w) e g h = (
+  h.0,
+  [],
+  refl,
+  h.1 ∙ sym (append-nil (seen s)),
+  λ S q other j. let same : T ≡ S = cc in subst (λ (U : Lexeme). run s (U ∷ other) ≡ found w (U ∷ other)) same (run_next s T other (done w) e),
+)
+next_good r N s T ih stop e g h = (
+  [],
+  refl,
+  rw append-nil (alive N s g),
+  λ S q other j. let same : T ≡ S = cc in subst (λ (U : Lexeme). run s (U ∷ other) ≡ stopped (U ∷ other)) same (run_next s T other stop e),
+)
 
 pub run_good : (ts : List Lexeme) (N : ℕ) (s : Mode) → Good N s → Answers N s (seen s) ts (run s ts)
 run_good [] N s g = end_good N s g

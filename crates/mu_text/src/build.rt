@@ -98,11 +98,22 @@ pub fn negated(alloc: Global, name: Name, operand: Operand) -> Result<Operand, A
     } else {
         operand.tree
     };
-    Ok(Operand { tree, level: PREFIX_LEVEL, size, depth })
+    Ok(Operand {
+        tree,
+        level: PREFIX_LEVEL,
+        size,
+        depth,
+    })
 }
 
 /// An operator and its operands.
-pub fn joined(alloc: Global, name: Name, level: u8, left: Operand, right: Operand) -> Result<Operand, AllocError>
+pub fn joined(
+    alloc: Global,
+    name: Name,
+    level: u8,
+    left: Operand,
+    right: Operand,
+) -> Result<Operand, AllocError>
     ensures { IfOk result (λ o. Built (tree.App name (left.tree ∷ right.tree ∷ [])) level (left.size + right.size + 1) (max left.depth right.depth + 1) o) }
 {
     let size = sum(sum(left.size, right.size), 1);
@@ -112,11 +123,22 @@ pub fn joined(alloc: Global, name: Name, level: u8, left: Operand, right: Operan
     } else {
         left.tree
     };
-    Ok(Operand { tree, level, size, depth })
+    Ok(Operand {
+        tree,
+        level,
+        size,
+        depth,
+    })
 }
 
 /// A binder with its variable, domain and body.
-pub fn bound(alloc: Global, binder: Name, var: Name, dom: Operand, body: Operand) -> Result<Operand, AllocError>
+pub fn bound(
+    alloc: Global,
+    binder: Name,
+    var: Name,
+    dom: Operand,
+    body: Operand,
+) -> Result<Operand, AllocError>
     ensures { IfOk result (λ o. Built (tree.Bind binder var dom.tree body.tree) 7 (dom.size + body.size + 1) (max dom.depth body.depth + 1) o) }
 {
     let size = sum(sum(dom.size, body.size), 1);
@@ -131,7 +153,12 @@ pub fn bound(alloc: Global, binder: Name, var: Name, dom: Operand, body: Operand
     } else {
         dom.tree
     };
-    Ok(Operand { tree, level: ATOM_LEVEL, size, depth })
+    Ok(Operand {
+        tree,
+        level: ATOM_LEVEL,
+        size,
+        depth,
+    })
 }
 
 // the same trees in a list that has no more room than they need

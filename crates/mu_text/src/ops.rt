@@ -55,9 +55,27 @@ fn row(mark: Mark, level: u8, side: Side) -> Op
 {
     let above = level + 1;
     match side {
-        Side::Neither => Op { mark, level, left: above, right: above, opens: 0 },
-        Side::Left => Op { mark, level, left: level, right: above, opens: 0 },
-        Side::Right => Op { mark, level, left: above, right: level, opens: 1 },
+        Side::Neither => Op {
+            mark,
+            level,
+            left: above,
+            right: above,
+            opens: 0,
+        },
+        Side::Left => Op {
+            mark,
+            level,
+            left: level,
+            right: above,
+            opens: 0,
+        },
+        Side::Right => Op {
+            mark,
+            level,
+            left: above,
+            right: level,
+            opens: 1,
+        },
     }
 }
 

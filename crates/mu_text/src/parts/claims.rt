@@ -20,11 +20,7 @@ use std::alloc::Global;
 ///
 /// `Mismatch` at the first token with which no claim goes on. `NoMemory`.
 #[tactic(auto, unfolding(crate::specs::Claims::read_claim))]
-pub fn claim(
-    alloc: Global,
-    reader: &mut Reader,
-    excess: &mut Excess,
-) -> Result<Claim, PartFault>
+pub fn claim(alloc: Global, reader: &mut Reader, excess: &mut Excess) -> Result<Claim, PartFault>
     ensures { Gives (Raising StandsClaim trees_in_claim excess.old excess.new) (read_claim reader.old) result reader.new }
 {
     let first = hypothesis(alloc, reader, excess)?;
@@ -94,11 +90,7 @@ fn hypotheses(
 
 /// Reads a hypothesis: a tree.
 #[tactic(auto, unfolding(crate::specs::Claims::read_hypothesis))]
-fn hypothesis(
-    alloc: Global,
-    reader: &mut Reader,
-    excess: &mut Excess,
-) -> Result<Hyp, PartFault>
+fn hypothesis(alloc: Global, reader: &mut Reader, excess: &mut Excess) -> Result<Hyp, PartFault>
     ensures { Gives (Raising StandsHypothesis trees_in_hypothesis excess.old excess.new) (read_hypothesis reader.old) result reader.new }
 {
     let tree = tree(alloc, reader, excess)?;

@@ -93,11 +93,7 @@ fn with_abstractions(
 ///
 /// `Mismatch` at the first token with which no reason goes on. `NoMemory`.
 #[tactic(auto, unfolding(crate::specs::Reasons::read_reason))]
-pub fn reason(
-    alloc: Global,
-    reader: &mut Reader,
-    excess: &mut Excess,
-) -> Result<Why, PartFault>
+pub fn reason(alloc: Global, reader: &mut Reader, excess: &mut Excess) -> Result<Why, PartFault>
     ensures { Gives (Raising StandsReason trees_in_reason excess.old excess.new) (read_reason reader.old) result reader.new }
 {
     word(reader, b"rule")?;

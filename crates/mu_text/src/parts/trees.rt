@@ -15,11 +15,7 @@ use std::alloc::Global;
 /// # Errors
 ///
 /// `Mismatch` at the first token with which no tree goes on. `NoMemory`.
-pub fn tree(
-    alloc: Global,
-    reader: &mut Reader,
-    excess: &mut Excess,
-) -> Result<Tree, PartFault>
+pub fn tree(alloc: Global, reader: &mut Reader, excess: &mut Excess) -> Result<Tree, PartFault>
     ensures { Gives (Raising StandsTree one_tree excess.old excess.new) (read_tree reader.old) result reader.new }
 {
     let operand = reader.tree(alloc, MOST_NESTING, 0)?;

@@ -5,8 +5,8 @@ use Rattle.mu_text.specs.SimpleParts.{StandsName, read_var}
 use Rattle.mu_text.proofs.Turns.{Turn}
 use Rattle.mu_text.proofs.parts.vars.Given as goal
 
-abbrev pub invariant-loop-alloc : goal.invariant-loop-alloc
-invariant-loop-alloc l = Turn (StandsEach StandsName) Comma read_var (separated Comma read_var l.fn.reader) l.reader l.names
+abbrev pub invariant-loop-reader : goal.invariant-loop-reader
+invariant-loop-reader l = Turn (StandsEach StandsName) Comma read_var (separated Comma read_var l.fn.reader) l.reader l.names
 
-abbrev pub decreases-loop-alloc : goal.decreases-loop-alloc
-decreases-loop-alloc l = length l.reader
+abbrev pub decreases-loop-reader : goal.decreases-loop-reader
+decreases-loop-reader l = length l.reader

@@ -15,4 +15,4 @@ returns c =
     let same : c.new-reader.result ≡ items_of c.args.text.now = search rules in
     subst (ReadsText IsClaim trees_in_claim claim_of c.args.text.now) (sym c.answer.ensures)
     (reads_text IsClaim trees_in_claim StandsClaim claim_of claim-meant read_claim (Exact-before read_claim IsClaim NoClaim End (λ rest e. subst NoClaim (sym e) (tt, tt)) Exact-claim)
-    c.args.text.now c.new-reader.result c.claim.result c.claim.new.reader c.none.result c.claim.new.excess c.len.result same c.none.ensures c.claim.ensures c.len.ensures)
+    c.args.text.now c.new-reader.result c.claim-read.result c.claim-read.new.reader c.none-excess.result c.claim-read.new.excess c.len.result same c.none-excess.ensures c.claim-read.ensures c.len.ensures)

@@ -17,4 +17,4 @@ returns c =
     let same : c.new-reader.result ≡ items_of c.args.text.now = search rules in
     subst (ReadsText OneTree one_tree tree_of c.args.text.now) (sym c.answer.ensures)
     (reads_text OneTree one_tree StandsTree tree_of tree-meant read_tree (Exact-before read_tree OneTree Follows End (λ rest e. subst Follows (sym e) tt) Exact-tree)
-    c.args.text.now c.new-reader.result c.tree.result c.tree.new.reader c.none.result c.tree.new.excess c.len.result same c.none.ensures c.tree.ensures c.len.ensures)
+    c.args.text.now c.new-reader.result c.tree-read.result c.tree-read.new.reader c.none-excess.result c.tree-read.new.excess c.len.result same c.none-excess.ensures c.tree-read.ensures c.len.ensures)

@@ -15,4 +15,4 @@ returns c =
     let same : c.new-reader.result ≡ items_of c.args.text.now = search rules in
     subst (ReadsText IsReason trees_in_reason why_of c.args.text.now) (sym c.answer.ensures)
     (reads_text IsReason trees_in_reason StandsReason why_of reason-meant read_reason (Exact-before read_reason IsReason NoReason End (λ rest e. subst NoReason (sym e) (((tt, tt), tt), ((tt, tt), tt))) Exact-reason)
-    c.args.text.now c.new-reader.result c.reason.result c.reason.new.reader c.none.result c.reason.new.excess c.len.result same c.none.ensures c.reason.ensures c.len.ensures)
+    c.args.text.now c.new-reader.result c.reason-read.result c.reason-read.new.reader c.none-excess.result c.reason-read.new.excess c.len.result same c.none-excess.ensures c.reason-read.ensures c.len.ensures)

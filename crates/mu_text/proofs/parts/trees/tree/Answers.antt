@@ -11,7 +11,7 @@ use Rattle.mu_text.proofs.parts.trees.tree.Goals as goal
 pub returns-in_err-operand : goal.returns-in_err-operand
 returns-in_err-operand c =
     let h : Gives (Raising StandsTree one_tree c.args.excess.now c.args.excess.now) (read_tree c.args.reader.now) (Err c.in_err-operand.field-0.0) c.tree.new.self =
-        stops_tree (Raising StandsTree one_tree c.args.excess.now c.args.excess.now) c.args.reader.now c.tree.new.self c.in_err-operand.field-0.0 c.in_err-operand.ensures.reads in
+    stops_tree (Raising StandsTree one_tree c.args.excess.now c.args.excess.now) c.args.reader.now c.tree.new.self c.in_err-operand.field-0.0 c.in_err-operand.ensures.reads in
     search rules
 
 pub returns : goal.returns

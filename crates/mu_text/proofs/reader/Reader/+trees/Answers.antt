@@ -14,7 +14,7 @@ use Rattle.mu_text.proofs.reader.Reader.+trees.Goals as goal
 pub arguments-returns-in_err-tree-clause-reads : goal.arguments-returns-in_err-tree-clause-reads
 arguments-returns-in_err-tree-clause-reads t c = λ x.
     let h : Stops (λ k. want (c.args.nesting - 1) 0 (given c.args.head x [] c.args.nesting c.args.least k)) c.args.self.now c.tree.new.self c.in_err-tree.field-0.0 =
-        err_argument c.args.head x c.args.nesting c.args.least c.args.self.now c.loop-args.self c.tree.new.self c.loop-args.args c.in_err-tree.field-0.0 (c.loop-args.invariant.gives x) c.in_err-tree.ensures.reads.0 in
+    err_argument c.args.head x c.args.nesting c.args.least c.args.self.now c.loop-args.self c.tree.new.self c.loop-args.args c.in_err-tree.field-0.0 (c.loop-args.invariant.gives x) c.in_err-tree.ensures.reads.0 in
     search rules
 
 pub arguments-loop-args-preserved : goal.arguments-loop-args-preserved
@@ -43,14 +43,14 @@ arguments-returns-in-Nothing-clause-reads t c = λ x.
 pub binder-returns-in_err-var-clause-reads : goal.binder-returns-in_err-var-clause-reads
 binder-returns-in_err-var-clause-reads t c = λ x f.
     let h : Stops (binding c.args.head x c.args.nesting c.args.least) c.args.self.now c.var.new.self c.in_err-var.field-0.0 =
-        err_var c.args.head x c.args.nesting c.args.least c.args.self.now c.var.new.self c.in_err-var.field-0.0 c.in_err-var.ensures.reads in
+    err_var c.args.head x c.args.nesting c.args.least c.args.self.now c.var.new.self c.in_err-var.field-0.0 c.in_err-var.ensures.reads in
     search rules
 
 pub binder-returns-in_err-expect-clause-reads : goal.binder-returns-in_err-expect-clause-reads
 binder-returns-in_err-expect-clause-reads t c = λ x f.
     let v = c.in_ok-var.ensures.reads in
     let h : Stops (binding c.args.head x c.args.nesting c.args.least) c.args.self.now c.expect.new.self c.in_err-expect.field-0.0 =
-        err_colon c.args.head x v.0 c.args.nesting c.args.least c.args.self.now c.var.new.self c.expect.new.self c.in_err-expect.field-0.0 v.1 c.in_err-expect.ensures.expects in
+    err_colon c.args.head x v.0 c.args.nesting c.args.least c.args.self.now c.var.new.self c.expect.new.self c.in_err-expect.field-0.0 v.1 c.in_err-expect.ensures.expects in
     search rules
 
 pub binder-returns-in_err-expect-2-clause-reads : goal.binder-returns-in_err-expect-2-clause-reads
@@ -58,8 +58,8 @@ binder-returns-in_err-expect-2-clause-reads t c = λ x f.
     let v = c.in_ok-var.ensures.reads in
     let d = c.in_ok-dom.ensures.reads in
     let h : Stops (binding c.args.head x c.args.nesting c.args.least) c.args.self.now c.expect-2.new.self c.in_err-expect-2.field-0.0 =
-        err_dot c.args.head x v.0 c.args.nesting c.args.least c.args.self.now c.var.new.self c.expect.new.self c.tree.new.self c.expect-2.new.self c.in_ok-dom.dom c.in_err-expect-2.field-0.0 v.1
-        c.in_ok-expect.ensures.expects d.0 d.1 c.in_err-expect-2.ensures.expects in
+    err_dot c.args.head x v.0 c.args.nesting c.args.least c.args.self.now c.var.new.self c.expect.new.self c.tree.new.self c.expect-2.new.self c.in_ok-dom.dom c.in_err-expect-2.field-0.0 v.1
+    c.in_ok-expect.ensures.expects d.0 d.1 c.in_err-expect-2.ensures.expects in
     search rules
 
 pub binder-returns-in_err-expect-3-clause-reads : goal.binder-returns-in_err-expect-3-clause-reads
@@ -68,8 +68,8 @@ binder-returns-in_err-expect-3-clause-reads t c = λ x f.
     let d = c.in_ok-dom.ensures.reads in
     let b = c.in_ok-body.ensures.reads in
     let h : Stops (binding c.args.head x c.args.nesting c.args.least) c.args.self.now c.expect-3.new.self c.in_err-expect-3.field-0.0 =
-        err_brace c.args.head x v.0 c.args.nesting c.args.least c.args.self.now c.var.new.self c.expect.new.self c.tree.new.self c.expect-2.new.self c.tree-2.new.self c.expect-3.new.self
-        c.in_ok-dom.dom c.in_ok-body.body c.in_err-expect-3.field-0.0 v.1 c.in_ok-expect.ensures.expects d.0 c.in_ok-expect-2.ensures.expects b.0 b.1 c.in_err-expect-3.ensures.expects in
+    err_brace c.args.head x v.0 c.args.nesting c.args.least c.args.self.now c.var.new.self c.expect.new.self c.tree.new.self c.expect-2.new.self c.tree-2.new.self c.expect-3.new.self
+    c.in_ok-dom.dom c.in_ok-body.body c.in_err-expect-3.field-0.0 v.1 c.in_ok-expect.ensures.expects d.0 c.in_ok-expect-2.ensures.expects b.0 b.1 c.in_err-expect-3.ensures.expects in
     search rules
 
 pub binder-returns-clause-reads : goal.binder-returns-clause-reads
@@ -84,7 +84,7 @@ pub named-returns-in_err-args-in-Arguments-clause-reads : goal.named-returns-in_
 named-returns-in_err-args-in-Arguments-clause-reads t c = λ x f.
     let e : opening_of c.args.head (first_sort c.args.self.now) ≡ opens.Arguments = cc in
     let h : Stops (named c.args.head x c.args.nesting c.args.least) c.args.self.now c.arguments.new.self c.in_err-args-in-Arguments.field-0.0 =
-        err_arguments c.args.head x c.args.nesting c.args.least c.args.self.now c.skip.new.self c.arguments.new.self c.in_err-args-in-Arguments.field-0.0 (omega arith) e c.skip.ensures (c.in_err-args-in-Arguments.ensures.reads x) in
+    err_arguments c.args.head x c.args.nesting c.args.least c.args.self.now c.skip.new.self c.arguments.new.self c.in_err-args-in-Arguments.field-0.0 (omega arith) e c.skip.ensures (c.in_err-args-in-Arguments.ensures.reads x) in
     search rules
 
 pub named-returns-in-Nothing-clause-reads : goal.named-returns-in-Nothing-clause-reads
@@ -119,7 +119,7 @@ pub operand-returns-in_ok-name-in-Head-clause-reads : goal.operand-returns-in_ok
 operand-returns-in_ok-name-in-Head-clause-reads t c =
     let e : beginning_of (first_sort c.args.self.now) ≡ begins.Head c.in-Head.head = cc in
     let f : IsName (first_bytes c.args.self.now) → c.in_ok-name-in-Head.name ≡ first_bytes c.args.self.now =
-        λ k. c.in_ok-name-in-Head.ensures.kept (rw c.bytes.ensures k) ∙ c.bytes.ensures in
+    λ k. c.in_ok-name-in-Head.ensures.kept (rw c.bytes.ensures k) ∙ c.bytes.ensures in
     by_head c.args.nesting c.args.least c.in-Head.head (first_bytes c.args.self.now) c.args.self.now c.skip.new.self c.named.new.self c.named.result e refl c.skip.ensures
     (c.named.ensures.reads (first_bytes c.args.self.now) f)
 
@@ -134,7 +134,7 @@ pub paren-returns-in_err-expect-clause-reads : goal.paren-returns-in_err-expect-
 paren-returns-in_err-expect-clause-reads t c =
     let r = c.in_ok-tree.ensures.reads in
     let h : Stops (want c.args.nesting c.args.least) c.args.self.now c.expect.new.self c.in_err-expect.field-0.0 =
-        err_close c.args.nesting c.args.least c.args.self.now c.skip.new.self c.tree.new.self c.expect.new.self c.in_ok-tree.tree c.in_err-expect.field-0.0 (omega arith) c.requires.first c.skip.ensures r.0 r.1 c.in_err-expect.ensures.expects in
+    err_close c.args.nesting c.args.least c.args.self.now c.skip.new.self c.tree.new.self c.expect.new.self c.in_ok-tree.tree c.in_err-expect.field-0.0 (omega arith) c.requires.first c.skip.ensures r.0 r.1 c.in_err-expect.ensures.expects in
     search rules
 
 pub paren-returns-clause-reads : goal.paren-returns-clause-reads

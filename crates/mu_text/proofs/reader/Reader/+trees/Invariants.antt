@@ -1,5 +1,4 @@
 use Rattle.std.proofs.Common.{◌≡◌, ℕ, ◌<◌, ◌≤◌, [], ◌∷◌, List, length, ◌+◌, ◌-◌, ◌*◌}
-
 use Rattle.mu_text.specs.Machine.{want, have}
 use Rattle.mu_text.specs.Reads.{Goes}
 use Rattle.mu_text.proofs.Steps.{Back}
@@ -32,7 +31,7 @@ decreases-arguments l = 20 * l.nesting
 abbrev pub invariant-tree-loop-op : goal.invariant-tree-loop-op
 invariant-tree-loop-op l = record {
   shorter : length l.self ≤ length l.fn.self;
-  takes : Goes (want l.nesting l.least) (have l.nesting l.least) l.fn.self l.self l.left
+  takes : Goes (want l.nesting l.least) (have l.nesting l.least) l.fn.self l.self l.left;
 }
 
 abbrev pub decreases-tree-loop-op : goal.decreases-tree-loop-op
@@ -41,7 +40,7 @@ decreases-tree-loop-op l = length l.self
 abbrev pub invariant-arguments-loop-args : goal.invariant-arguments-loop-args
 invariant-arguments-loop-args l = record {
   shorter : length l.self ≤ length l.fn.self;
-  gives : (x : List ℕ) → Back l.head x l.nesting l.least l.fn.self l.self l.args
+  gives : (x : List ℕ) → Back l.head x l.nesting l.least l.fn.self l.self l.args;
 }
 
 abbrev pub decreases-arguments-loop-args : goal.decreases-arguments-loop-args
