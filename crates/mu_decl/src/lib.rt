@@ -27,7 +27,7 @@ pub use bare::{Bare, Bares, same, same_all};
 pub use claims::{add_type_occurrences, claim_occurrences, types_formed, well_formed};
 pub use comparing::{are_instances_of, is_instance_of};
 pub use contexts::{Context, Own};
-pub use declaration::{ConstDecl, MorphMap, Renamings, Statement};
+pub use declaration::{ConstDecl, MorphMap, NameMap, Statement};
 pub use formation::{Scope, Scoped, add_expressions, all_formed, is_formed};
 pub use instantiating::{Abstraction, instantiate, instantiate_all};
 pub use nameless::enter;
