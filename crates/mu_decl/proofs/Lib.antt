@@ -10,6 +10,7 @@ pub mod InStep
 pub mod Induction
 pub mod OpeningEquations
 pub mod Places
+pub mod Reading
 pub mod Renaming
 pub mod Rests
 pub mod Substitutions

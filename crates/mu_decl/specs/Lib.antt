@@ -1,6 +1,7 @@
 pub mod Abstractions
 pub mod Arities
 pub mod Claims
+pub mod Comparing
 pub mod Contexts
 pub mod Formation
 pub mod Instantiating

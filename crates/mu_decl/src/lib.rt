@@ -18,6 +18,7 @@ mod instantiating;
 mod nameless;
 mod occurring;
 mod opening;
+mod pairing;
 mod translating;
 mod unfolding;
 
