@@ -21,3 +21,4 @@ pub mod UnfoldedEquations
 pub mod UnfoldedOpened
 pub mod Untouched
 pub mod Variables
+pub mod Weights

@@ -11,3 +11,4 @@ pub mod Nothing
 pub mod Opening
 pub mod Translating
 pub mod Unfolding
+pub mod Weights

@@ -1,9 +1,10 @@
-ghost use Rattle.std.specs.Prelude.{◌≡◌, ◌↔◌, ◌+◌, IsTrue, IfOk, map};
+ghost use Rattle.std.specs.Prelude.{◌≡◌, ◌↔◌, IsTrue, IfOk, map};
 ghost use Rattle.mu_decl.specs.Instantiating.{instantiated};
 ghost use Rattle.mu_decl.specs.Comparing.{read};
 
 use crate::abstractions::Abstractions;
 use crate::bare::Bare;
+use crate::growing::{MOST_LEVELS, fewer};
 use crate::pairing::{Reading, Rest, parts};
 use mu_tree::NoMemory;
 use std::alloc::Global;
@@ -15,7 +16,7 @@ use std::alloc::Global;
 ///
 /// # Errors
 ///
-/// `NoMemory` may come at any trees, and comes where the comparison would go down more than `u64::MAX` levels.
+/// `NoMemory` may come at any trees, and comes where the comparison would go down more than four thousand levels.
 pub fn is_instance_of(
     alloc: Global,
     given: &Abstractions,
@@ -24,7 +25,14 @@ pub fn is_instance_of(
 ) -> Result<bool, NoMemory>
     ensures { IfOk result (λ yes. IsTrue yes ↔ (instantiated given.now pattern.now ≡ tree.now)) }
 {
-    agree(alloc, given, Reading::Instantiated, pattern, tree, u64::MAX)
+    agree(
+        alloc,
+        given,
+        Reading::Instantiated,
+        pattern,
+        tree,
+        MOST_LEVELS,
+    )
 }
 
 /// Whether trees are patterns with all metavariables replaced, each the one at its place.
@@ -48,12 +56,6 @@ pub fn are_instances_of(
         trees,
         u64::MAX,
     )
-}
-
-fn fewer(levels: u64) -> Result<u64, NoMemory>
-    ensures { IfOk result (λ left. left + 1 ≡ levels) }
-{
-    levels.checked_sub(1).ok_or(NoMemory)
 }
 
 /// Whether a tree is a pattern as it is read.

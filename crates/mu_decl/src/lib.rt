@@ -14,6 +14,7 @@ mod comparing;
 mod contexts;
 mod declaration;
 mod formation;
+mod growing;
 mod instantiating;
 mod nameless;
 mod occurring;

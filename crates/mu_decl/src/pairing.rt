@@ -8,7 +8,7 @@ ghost use Rattle.mu_decl.specs.Comparing.{read, Fits};
 
 use crate::abstractions::Abstractions;
 use crate::bare::{Bare, Bares, same};
-use crate::opening::{added, opened, replacement, shift_under};
+use crate::opening::{added, opened, replacement, shifted};
 use mu_tree::{Name, NoMemory};
 use sqlite_items::Items;
 use std::alloc::Global;
@@ -283,7 +283,7 @@ fn lowered(alloc: Global, tree: &Bare, by: u64) -> Result<Option<Bare>, NoMemory
 {
     let binders = placeholders(alloc, by)?;
     let low = opened(alloc, tree, &binders)?;
-    let back = shift_under(alloc, &low, by, 0)?;
+    let back = shifted(alloc, &low, by)?;
     if same(&back, tree) {
         Ok(Some(low))
     } else {
