@@ -122,13 +122,13 @@ ascends u Greater c = ((nat_list_cmp_total.antisymm u base ∙ ap ordering_rever
 pub nothing_seen : (u : List ℕ) → IsSeen nothing u
 nothing_seen u = ((λ n. (listed u n (slice_cmp nat_cmp base u), seen_listed u n)), ascends u (slice_cmp nat_cmp base u) refl)
 
--- no parents are in order
+empty_ordered : IsStrictlySortedBy (slice_cmp nat_cmp) []
+unfolding IsStrictlySortedBy
+empty_ordered = tt
+
+-- where there are no parents they are in order
 pub none_ordered : (w : World) (u : List ℕ) → parents_of w u ≡ [] → HasOrderedParents w u
-none_ordered w u e = subst (IsStrictlySortedBy (slice_cmp nat_cmp)) (sym e) none
-  where
-    none : IsStrictlySortedBy (slice_cmp nat_cmp) []
-    unfolding IsStrictlySortedBy
-    none = tt
+none_ordered w u e = subst (IsStrictlySortedBy (slice_cmp nat_cmp)) (sym e) empty_ordered
 
 -- the law of a context holds of it
 pub nothing_lawful : (u : List ℕ) → IsLawful nothing u

@@ -14,10 +14,12 @@ mod comparing;
 mod contexts;
 mod declaration;
 mod formation;
+mod growing;
 mod instantiating;
 mod nameless;
 mod occurring;
 mod opening;
+mod pairing;
 mod translating;
 mod unfolding;
 
