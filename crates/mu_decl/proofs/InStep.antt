@@ -1,8 +1,8 @@
 -- Comparing lists of trees in step, and taking trees out from under binders.
-use Rattle.std.proofs.Common.{◌≡◌, ℕ, zero, suc, ◌+◌, ◌-◌, ◌<◌, ◌↔◌, IsTrue, Bool, true, false, nat_lt, List, [], ◌∷◌, ◌++◌, length, map, reverse, take, get_or, slice_get, Option, Some, None, refl, ap, sym, ◌∙◌, subst, arith}
+use Rattle.std.proofs.Common.{◌≡◌, ℕ, ◌+◌, ◌↔◌, Bool, true, false, nat_lt, List, [], ◌∷◌, length, map, refl, ap, sym, ◌∙◌, arith}
 use Rattle.std.specs.List.{AllByRecursion}
 use Rattle.mu_decl.specs.declared.bare.Bare.{Bare}
-use Rattle.mu_decl.specs.declared.bare.Bare.TheOpen.{App, Meta, Bind}
+use Rattle.mu_decl.specs.declared.bare.Bare.TheOpen.{Bind}
 use Rattle.mu_decl.specs.declared.bare.Bare.TheViews.{out-Bare, out-roll-Bare}
 use Rattle.mu_decl.specs.declared.bare.Bare.TheVariants as bare
 use Rattle.mu_decl.specs.Opening.{shift_under, opened}
@@ -10,13 +10,6 @@ use Rattle.mu_decl.specs.Laws.{ShiftedIsUntouched}
 use Rattle.mu_decl.proofs.OpeningEquations.{shift-var, shift-index, shift-app, shift-meta, shift-bind}
 use Rattle.mu_decl.proofs.Induction.{bare_ind}
 use Rattle.mu_decl.proofs.Untouched.{shifted_is_untouched}
-
--- images that are equal are equal at each place
-pub equal_there : (f : Bare → Bare) (ps ts : List Bare) (i : ℕ) (p t : Bare) → i < length ps → p ≡ get_or ps i p → t ≡ get_or ts i t → map f ps ≡ ts → f p ≡ t
-equal_there f [] ts i p t h a b e = absurd (omega arith)
-equal_there f (q ∷ ps) [] i p t h a b e = absurd (cc)
-equal_there f (q ∷ ps) (u ∷ ts) zero p t h a b e = cc
-equal_there f (q ∷ ps) (u ∷ ts) (suc i) p t h a b e = equal_there f ps ts i p t (omega arith) a b (let r : map f ps ≡ ts = cc in r)
 
 module _ where
   abbrev Stays : Bare → Type 0
@@ -75,40 +68,19 @@ none_before by n low back tree c l b e x s =
     let is : x ≡ low = before_shift by x tree (ap (λ m. shift_under m 0 x) c ∙ s) ∙ sym l in
     e (b ∙ ap (shift_under n 0) (sym is) ∙ s)
 
-app_layer : (f : List ℕ) (xs : List Bare) → out-Bare (bare.App f xs) ≡ App f xs
-app_layer f xs = ap out-Bare (sym (bare.rolls-App f xs)) ∙ out-roll-Bare (App f xs)
-
-meta_layer : (m : List ℕ) (xs : List Bare) → out-Bare (bare.Meta m xs) ≡ Meta m xs
-meta_layer m xs = ap out-Bare (sym (bare.rolls-Meta m xs)) ∙ out-roll-Bare (Meta m xs)
-
 bind_layer : (b : List ℕ) (domain body : Bare) → out-Bare (bare.Bind b domain body) ≡ Bind b domain body
 bind_layer b domain body = ap out-Bare (sym (bare.rolls-Bind b domain body)) ∙ out-roll-Bare (Bind b domain body)
-
-app_parts : (f : List ℕ) (xs ys : List Bare) → bare.App f xs ≡ bare.App f ys → xs ≡ ys
-app_parts f xs ys e = let h : App f xs ≡ App f ys = sym (app_layer f xs) ∙ ap out-Bare e ∙ app_layer f ys in cc h
-
-meta_parts : (m : List ℕ) (xs ys : List Bare) → bare.Meta m xs ≡ bare.Meta m ys → xs ≡ ys
-meta_parts m xs ys e = let h : Meta m xs ≡ Meta m ys = sym (meta_layer m xs) ∙ ap out-Bare e ∙ meta_layer m ys in cc h
 
 bind_parts : (n : List ℕ) (a b c d : Bare) → bare.Bind n a b ≡ bare.Bind n c d → (a ≡ c) × (b ≡ d)
 bind_parts n a b c d e = let h : Bind n a b ≡ Bind n c d = sym (bind_layer n a b) ∙ ap out-Bare e ∙ bind_layer n c d in (cc h, cc h)
 
--- a node and a tree with one top are equal exactly where their parts are
-pub app_in_step : {P : Type 0} (v : Bare) (f : List ℕ) (vs ts : List Bare) (tree : Bare) → v ≡ bare.App f vs → bare.App f ts ≡ tree → P ↔ (vs ≡ ts) → P ↔ (v ≡ tree)
-app_in_step v f vs ts tree a b h = ((λ p. a ∙ ap (bare.App f) (h.0 p) ∙ b), (λ s. h.1 (app_parts f vs ts (sym a ∙ s ∙ sym b))))
+-- what decides whether a tree is another one decides it of an equal tree
+pub by_top : {P : Type 0} (a b tree : Bare) → a ≡ b → P ↔ (b ≡ tree) → P ↔ (a ≡ tree)
+by_top a b tree e h = ((λ p. e ∙ h.0 p), (λ s. h.1 (sym e ∙ s)))
 
-pub meta_in_step : {P : Type 0} (v : Bare) (m : List ℕ) (vs ts : List Bare) (tree : Bare) → v ≡ bare.Meta m vs → bare.Meta m ts ≡ tree → P ↔ (vs ≡ ts) → P ↔ (v ≡ tree)
-meta_in_step v m vs ts tree a b h = ((λ p. a ∙ ap (bare.Meta m) (h.0 p) ∙ b), (λ s. h.1 (meta_parts m vs ts (sym a ∙ s ∙ sym b))))
-
-pub bind_in_step : {P : Type 0} (v : Bare) (n : List ℕ) (domain body other inner tree : Bare) → v ≡ bare.Bind n domain body → bare.Bind n other inner ≡ tree → domain ≡ other → P ↔ (body ≡ inner) → P ↔ (v ≡ tree)
-bind_in_step v n domain body other inner tree a b d h = (
-  (λ p. let e = h.0 p in cc),
-  (λ s. h.1 (bind_parts n domain body other inner (sym a ∙ s ∙ sym b)).1),
-)
-
--- two binders with two domains differ
-pub bind_differs : (v : Bare) (n : List ℕ) (domain body other inner tree : Bare) → v ≡ bare.Bind n domain body → bare.Bind n other inner ≡ tree → (domain ≡ other → ⊥) → IsTrue false ↔ (v ≡ tree)
-bind_differs v n domain body other inner tree a b d = (
-  (λ f. absurd (let z : ⊥ = cc f in z)),
-  (λ s. absurd (d (bind_parts n domain body other inner (sym a ∙ s ∙ sym b)).0)),
+-- binders of one name are equal exactly where their domains and their bodies are
+pub both_in_step : (v : Bare) (n : List ℕ) (domain body other inner tree : Bare) → v ≡ bare.Bind n domain body → bare.Bind n other inner ≡ tree → ((domain ≡ other) × (body ≡ inner)) ↔ (v ≡ tree)
+both_in_step v n domain body other inner tree a b = (
+  (λ p. let d = p.0 in let e = p.1 in cc),
+  (λ s. bind_parts n domain body other inner (sym a ∙ s ∙ sym b)),
 )

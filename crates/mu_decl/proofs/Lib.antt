@@ -10,6 +10,7 @@ pub mod InStep
 pub mod Induction
 pub mod OpeningEquations
 pub mod Places
+pub mod Reading
 pub mod Renaming
 pub mod Rests
 pub mod Substitutions
@@ -20,3 +21,4 @@ pub mod UnfoldedEquations
 pub mod UnfoldedOpened
 pub mod Untouched
 pub mod Variables
+pub mod Weights

@@ -1,8 +1,8 @@
 -- The equations of translation.
 use Rattle.std.proofs.Common.{◌≡◌, ℕ, List, map, ap, sym, ◌∙◌}
 use Rattle.mu_decl.specs.declared.bare.Bare.{Bare}
-use Rattle.mu_decl.specs.declared.bare.Bare.TheOpen.{Bare-F, Var, Index, App, Meta, Bind}
-use Rattle.mu_decl.specs.declared.bare.Bare.TheFolds.{fold-Bare, fold-roll-Bare}
+use Rattle.mu_decl.specs.declared.bare.Bare.TheOpen.{Var, Index, App, Meta, Bind}
+use Rattle.mu_decl.specs.declared.bare.Bare.TheFolds.{fold-roll-Bare}
 use Rattle.mu_decl.specs.declared.bare.Bare.TheVariants as bare
 use Rattle.mu_tree.specs.Maps.{MapOf}
 use Rattle.mu_decl.specs.Translating.{translated, translated_step, image}

@@ -15,13 +15,13 @@ use Rattle.mu_decl.specs.declared.declaration.MorphMap.{MorphMap}
 
 -- all that a check may look up
 pub record World : Type 0 where
-  -- the parents of each theory, in byte order
+  -- the parents of each theory
   pub parents : MapOf (List (List ℕ))
   pub constants : MapOf ConstDecl
   pub definitions : MapOf Definition
   pub rules : MapOf Statement
   pub morphisms : MapOf MorphMap
-  -- the names that are seen from a unit, in byte order
+  -- the names that are seen from a unit
   pub seen : List ℕ → List (List ℕ)
 
 -- the parents of a theory, none of a name that is no theory
@@ -44,6 +44,15 @@ Sees w u n = (n ≡ base) ⊎ ((k : ℕ) × Climbs w k u n)
 -- the names that are seen from u are listed, once each, in byte order
 abbrev pub IsSeen : World → List ℕ → Type 0
 IsSeen w u = ((n : List ℕ) → IsTrue (is_among (w.seen u) n) ↔ Sees w u n) × IsStrictlySortedBy (slice_cmp nat_cmp) (w.seen u)
+
+-- the parents of u are listed once each, in byte order
+abbrev pub HasOrderedParents : World → List ℕ → Type 0
+HasOrderedParents w u = IsStrictlySortedBy (slice_cmp nat_cmp) (parents_of w u)
+
+-- the law of a context: what holds of its world at each unit
+pub record IsLawful (w : World) (u : List ℕ) : Type 0 where
+  pub parents : HasOrderedParents w u
+  pub seen : IsSeen w u
 
 -- the constants whose declaration stands in u, in byte order
 abbrev pub own_constants : World → List ℕ → List (List ℕ)

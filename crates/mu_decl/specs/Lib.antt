@@ -1,6 +1,7 @@
 pub mod Abstractions
 pub mod Arities
 pub mod Claims
+pub mod Comparing
 pub mod Contexts
 pub mod Formation
 pub mod Instantiating
@@ -10,3 +11,4 @@ pub mod Nothing
 pub mod Opening
 pub mod Translating
 pub mod Unfolding
+pub mod Weights

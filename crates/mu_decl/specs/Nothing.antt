@@ -13,7 +13,7 @@ use Rattle.std.proofs.lemmas.Map.Lookups.{exact_bytes}
 use Rattle.std.proofs.lemmas.Map.Views.{tells_apart}
 use Rattle.mu_tree.specs.Names.{is_among}
 use Rattle.mu_tree.specs.Maps.{MapOf}
-use Rattle.mu_decl.specs.Contexts.{World, IsSeen, Sees, Climbs, parents_of, own_constants, own_axioms, base}
+use Rattle.mu_decl.specs.Contexts.{World, IsSeen, IsLawful, HasOrderedParents, Sees, Climbs, parents_of, own_constants, own_axioms, base}
 use Rattle.mu_decl.specs.declared.declaration.ConstDecl.{ConstDecl}
 use Rattle.mu_decl.specs.declared.declaration.Statement.{Statement}
 
@@ -118,9 +118,21 @@ ascends u Less c = ((c, tt), (tt, tt))
 ascends u Equal c = (tt, tt)
 ascends u Greater c = ((nat_list_cmp_total.antisymm u base ∙ ap ordering_reverse c, tt), (tt, tt))
 
--- the law of a context holds of it
+-- what is seen in it is listed
 pub nothing_seen : (u : List ℕ) → IsSeen nothing u
 nothing_seen u = ((λ n. (listed u n (slice_cmp nat_cmp base u), seen_listed u n)), ascends u (slice_cmp nat_cmp base u) refl)
+
+empty_ordered : IsStrictlySortedBy (slice_cmp nat_cmp) []
+unfolding IsStrictlySortedBy
+empty_ordered = tt
+
+-- where there are no parents they are in order
+pub none_ordered : (w : World) (u : List ℕ) → parents_of w u ≡ [] → HasOrderedParents w u
+none_ordered w u e = subst (IsStrictlySortedBy (slice_cmp nat_cmp)) (sym e) empty_ordered
+
+-- the law of a context holds of it
+pub nothing_lawful : (u : List ℕ) → IsLawful nothing u
+nothing_lawful u = record { parents = none_ordered nothing u (no_parents u); seen = nothing_seen u }
 
 no_items : {X : Type 0} (xs : List X) → length xs ≡ 0 → xs ≡ []
 no_items [] e = refl

@@ -1,7 +1,7 @@
 ghost use Rattle.std.specs.Prelude.{◌≡◌, ℕ, List, IfOk};
 ghost use Rattle.std.specs.Option.{option_copied};
 ghost use Rattle.std.specs.FinMap as map;
-ghost use Rattle.mu_decl.specs.Contexts.{World, IsSeen, parents_of, own_constants, own_axioms};
+ghost use Rattle.mu_decl.specs.Contexts.{World, IsLawful, parents_of, own_constants, own_axioms};
 
 use crate::declaration::{ConstDecl, MorphMap, Statement};
 use mu_tree::{Definition, Name, Names, NoMemory};
@@ -21,7 +21,7 @@ pub struct Own {
 pub trait Context {
     ghost world: { Self → World };
 
-    ghost exact: { (context : Self) (unit : List ℕ) → IsSeen (world context) unit };
+    ghost exact: { (context : Self) (unit : List ℕ) → IsLawful (world context) unit };
 
     /// The constant of a name, none exactly where there is no such constant.
     fn constant(&self, name: &Name) -> Option<&ConstDecl>

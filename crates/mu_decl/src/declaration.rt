@@ -1,4 +1,4 @@
-use mu_tree::{Claim, Kind, Name, Sequence, Shape};
+use mu_tree::{Claim, Kind, Name, Shape, Table};
 
 /// A declared constant.
 #[derive(Debug, Drop)]
@@ -22,18 +22,18 @@ pub struct Statement {
     pub claim: Claim,
 }
 
-/// A list of pairs of names: what stands for what.
-pub type Renamings = Sequence<(Name, Name)>;
+/// A map from names to names: what stands for what, each name once and in byte order.
+pub type NameMap = Table<Name>;
 
 /// A morphism of theories: it takes what is said in the source to what is said in the target.
-#[derive(Debug, Drop)]
+#[derive(Drop)]
 pub struct MorphMap {
     /// The unit that is translated.
     pub source: Name,
     /// The unit that it is translated into.
     pub target: Name,
     /// The constants of the source that have another name in the target, each with that name.
-    pub map: Renamings,
+    pub map: NameMap,
     /// The axioms of the source, each with the rule of the target that carries it.
-    pub carries: Renamings,
+    pub carries: NameMap,
 }

@@ -1,10 +1,12 @@
-ghost use Rattle.std.specs.Prelude.{◌≡◌, IfOk, map};
+ghost use Rattle.std.specs.Prelude.{◌≡◌, ◌+◌, ◌≤◌, ◌^◌, IfOk, map};
 ghost use Rattle.std.specs.Option.{option_copied};
 ghost use Rattle.mu_decl.specs.Instantiating.{instantiated, instance, abstraction_of};
+ghost use Rattle.mu_decl.specs.Weights.{weight, weights};
 ghost use Rattle.mu_decl.specs.Laws.{VariablesStay, InstancesAreClosed, NothingIsCaptured};
 
 use crate::bare::{Bare, Bares};
-use crate::opening::opened;
+use crate::growing::{MOST_NODES, spend};
+use crate::opening::opened_within;
 use mu_tree::{Name, NoMemory};
 use sqlite_items::{Boxed, Items};
 use std::alloc::Global;
@@ -32,78 +34,103 @@ pub struct Abstraction {
 ///
 /// # Errors
 ///
-/// `NoMemory` may come at any tree, and comes where an index would pass `u64::MAX`.
+/// `NoMemory` may come at any tree, and comes where more than a million nodes would be made, an inserted body would be
+/// deeper than four thousand levels, or an index would pass `u64::MAX`.
 #[tactic(auto, using(crate::proofs::Variables::variables_stay, crate::proofs::Closing::instances_are_closed, crate::proofs::Capture::nothing_is_captured))]
 pub fn instantiate(alloc: Global, tree: &Bare, given: &[Abstraction]) -> Result<Bare, NoMemory>
     ensures value { IfOk result (λ bare. bare ≡ instantiated given.now tree.now) }
+    ensures bounded { IfOk result (λ bare. weight bare ≤ 2 ^ 20) }
     ensures variables { VariablesStay }
     ensures closed { InstancesAreClosed }
     ensures capture { NothingIsCaptured }
 {
-    replaced(alloc, tree, given)
+    let mut room = MOST_NODES;
+    replaced(alloc, tree, given, &mut room)
 }
 
 /// The trees, each with all metavariables replaced as `instantiate` does.
 ///
 /// # Errors
 ///
-/// `NoMemory` may come at any trees, and comes where an index would pass `u64::MAX`.
+/// As `instantiate`, for all trees together.
 pub fn instantiate_all(
     alloc: Global,
     trees: &[Bare],
     given: &[Abstraction],
 ) -> Result<Bares, NoMemory>
-    ensures { IfOk result (λ all. all ≡ map (instantiated given.now) trees.now) }
+    ensures value { IfOk result (λ all. all ≡ map (instantiated given.now) trees.now) }
+    ensures bounded { IfOk result (λ all. weights all ≤ 2 ^ 20) }
 {
-    replaced_all(alloc, trees, given)
+    let mut room = MOST_NODES;
+    replaced_all(alloc, trees, given, &mut room)
 }
 
 #[cycle(replaced)]
-#[tactic(auto, using(crate::proofs::OpeningEquations::instantiated_equations))]
-fn replaced(alloc: Global, tree: &Bare, given: &[Abstraction]) -> Result<Bare, NoMemory>
-    ensures { IfOk result (λ bare. bare ≡ instantiated given.now tree.now) }
+#[tactic(auto, using(crate::proofs::OpeningEquations::instantiated_equations, crate::proofs::Weights::weight_equations))]
+fn replaced(
+    alloc: Global,
+    tree: &Bare,
+    given: &[Abstraction],
+    room: &mut u64,
+) -> Result<Bare, NoMemory>
+    ensures value { IfOk result (λ bare. bare ≡ instantiated given.now tree.now) }
+    ensures counted { IfOk result (λ bare. weight bare + room.new ≤ room.old) }
 {
+    spend(room)?;
     match tree {
         Bare::Var(name) => Ok(Bare::Var(name.copy(alloc)?)),
         Bare::Index(index) => Ok(Bare::Index(*index)),
         Bare::App(name, arguments) => {
             let name = name.copy(alloc)?;
-            let arguments = replaced_all(alloc, arguments.as_slice(), given)?;
+            let arguments = replaced_all(alloc, arguments.as_slice(), given, room)?;
             Ok(Bare::App(name, arguments))
         }
         Bare::Meta(name, arguments) => {
-            let arguments = replaced_all(alloc, arguments.as_slice(), given)?;
-            instance(alloc, name, arguments, given)
+            let arguments = replaced_all(alloc, arguments.as_slice(), given, room)?;
+            instance(alloc, name, arguments, given, room)
         }
-        Bare::Bind(binder, domain, body) => Ok(Bare::Bind(
-            binder.copy(alloc)?,
-            Boxed::new(alloc, replaced(alloc, domain.get(), given)?)?,
-            Boxed::new(alloc, replaced(alloc, body.get(), given)?)?,
-        )),
+        Bare::Bind(binder, domain, body) => {
+            let binder = binder.copy(alloc)?;
+            let domain = replaced(alloc, domain.get(), given, room)?;
+            let body = replaced(alloc, body.get(), given, room)?;
+            Ok(Bare::Bind(binder, Boxed::new(alloc, domain)?, Boxed::new(alloc, body)?))
+        }
     }
 }
 
 #[cycle(replaced)]
-fn replaced_all(alloc: Global, trees: &[Bare], given: &[Abstraction]) -> Result<Bares, NoMemory>
-    ensures { IfOk result (λ all. all ≡ map (instantiated given.now) trees.now) }
+fn replaced_all(
+    alloc: Global,
+    trees: &[Bare],
+    given: &[Abstraction],
+    room: &mut u64,
+) -> Result<Bares, NoMemory>
+    ensures value { IfOk result (λ all. all ≡ map (instantiated given.now) trees.now) }
+    ensures counted { IfOk result (λ all. weights all + room.new ≤ room.old) }
 {
     let mut all = Items::new(alloc);
     for tree in trees {
-        all.push(replaced(alloc, tree, given)?)?;
+        all.push(replaced(alloc, tree, given, room)?)?;
     }
     Ok(all)
 }
 
+// The nodes of the arguments were counted already, and one for the metavariable.
+#[tactic(auto, using(crate::proofs::Weights::weight_equations))]
 fn instance(
     alloc: Global,
     meta: &Name,
     arguments: Bares,
     given: &[Abstraction],
+    room: &mut u64,
 ) -> Result<Bare, NoMemory>
-    ensures { IfOk result (λ bare. bare ≡ instance given.now meta.now arguments) }
+    ensures value { IfOk result (λ bare. bare ≡ instance given.now meta.now arguments) }
+    ensures counted { IfOk result (λ bare. weight bare + room.new ≤ room.old + 1 + weights arguments) }
 {
     match abstraction_of(given, meta) {
-        Some(found) if found.count == arguments.len() => opened(alloc, &found.body, &arguments),
+        Some(found) if found.count == arguments.len() => {
+            opened_within(alloc, &found.body, &arguments, room)
+        }
         _ => Ok(Bare::Meta(meta.copy(alloc)?, arguments)),
     }
 }

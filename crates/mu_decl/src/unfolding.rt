@@ -1,10 +1,12 @@
-ghost use Rattle.std.specs.Prelude.{◌≡◌, IfOk, map};
+ghost use Rattle.std.specs.Prelude.{◌≡◌, ◌+◌, ◌≤◌, ◌^◌, IfOk, map};
 ghost use Rattle.mu_decl.specs.Laws.{UnfoldingOpens};
+ghost use Rattle.mu_decl.specs.Weights.{weight, weights};
 ghost use Rattle.mu_decl.specs.Unfolding.{unfolded, unfolded_application, delta_of};
 
 use crate::bare::{Bare, Bares};
+use crate::growing::{MOST_NODES, spend};
 use crate::nameless::enter;
-use crate::opening::opened;
+use crate::opening::opened_within;
 use mu_tree::{Definition, Name, Names, NoMemory};
 use sqlite_items::{Boxed, Items};
 use std::alloc::Global;
@@ -44,61 +46,77 @@ pub fn delta_of(
 ///
 /// # Errors
 ///
-/// `NoMemory` may come at any tree, and comes where an index would pass `u64::MAX`.
+/// `NoMemory` may come at any tree, and comes where more than a million nodes would be made, a body that came in would
+/// be deeper than four thousand levels, or an index would pass `u64::MAX`.
 #[tactic(auto, using(crate::proofs::UnfoldedOpened::unfolding_opens))]
 pub fn unfolded(alloc: Global, tree: &Bare, delta: &DeltaRule) -> Result<Bare, NoMemory>
     ensures value { IfOk result (λ bare. bare ≡ unfolded delta.now tree.now) }
+    ensures bounded { IfOk result (λ bare. weight bare ≤ 2 ^ 20) }
     ensures opens { UnfoldingOpens }
 {
-    reduced(alloc, tree, delta)
+    let mut room = MOST_NODES;
+    reduced(alloc, tree, delta, &mut room)
 }
 
 #[cycle(reduced)]
-#[tactic(auto, using(crate::proofs::UnfoldedEquations::unfolded_equations))]
-fn reduced(alloc: Global, tree: &Bare, delta: &DeltaRule) -> Result<Bare, NoMemory>
-    ensures { IfOk result (λ bare. bare ≡ unfolded delta.now tree.now) }
+#[tactic(auto, using(crate::proofs::UnfoldedEquations::unfolded_equations, crate::proofs::Weights::weight_equations))]
+fn reduced(alloc: Global, tree: &Bare, delta: &DeltaRule, room: &mut u64) -> Result<Bare, NoMemory>
+    ensures value { IfOk result (λ bare. bare ≡ unfolded delta.now tree.now) }
+    ensures counted { IfOk result (λ bare. weight bare + room.new ≤ room.old) }
 {
+    spend(room)?;
     match tree {
         Bare::Var(name) => Ok(Bare::Var(name.copy(alloc)?)),
         Bare::Index(index) => Ok(Bare::Index(*index)),
         Bare::App(name, arguments) => {
-            let arguments = reduced_all(alloc, arguments.as_slice(), delta)?;
-            application(alloc, name, arguments, delta)
+            let arguments = reduced_all(alloc, arguments.as_slice(), delta, room)?;
+            application(alloc, name, arguments, delta, room)
         }
         Bare::Meta(name, arguments) => {
             let name = name.copy(alloc)?;
-            let arguments = reduced_all(alloc, arguments.as_slice(), delta)?;
+            let arguments = reduced_all(alloc, arguments.as_slice(), delta, room)?;
             Ok(Bare::Meta(name, arguments))
         }
-        Bare::Bind(binder, domain, body) => Ok(Bare::Bind(
-            binder.copy(alloc)?,
-            Boxed::new(alloc, reduced(alloc, domain.get(), delta)?)?,
-            Boxed::new(alloc, reduced(alloc, body.get(), delta)?)?,
-        )),
+        Bare::Bind(binder, domain, body) => {
+            let binder = binder.copy(alloc)?;
+            let domain = reduced(alloc, domain.get(), delta, room)?;
+            let body = reduced(alloc, body.get(), delta, room)?;
+            Ok(Bare::Bind(binder, Boxed::new(alloc, domain)?, Boxed::new(alloc, body)?))
+        }
     }
 }
 
 #[cycle(reduced)]
-fn reduced_all(alloc: Global, trees: &[Bare], delta: &DeltaRule) -> Result<Bares, NoMemory>
-    ensures { IfOk result (λ all. all ≡ map (unfolded delta.now) trees.now) }
+fn reduced_all(
+    alloc: Global,
+    trees: &[Bare],
+    delta: &DeltaRule,
+    room: &mut u64,
+) -> Result<Bares, NoMemory>
+    ensures value { IfOk result (λ all. all ≡ map (unfolded delta.now) trees.now) }
+    ensures counted { IfOk result (λ all. weights all + room.new ≤ room.old) }
 {
     let mut all = Items::new(alloc);
     for tree in trees {
-        all.push(reduced(alloc, tree, delta)?)?;
+        all.push(reduced(alloc, tree, delta, room)?)?;
     }
     Ok(all)
 }
 
+// The nodes of the arguments were counted already, and one for the constant.
+#[tactic(auto, using(crate::proofs::Weights::weight_equations))]
 fn application(
     alloc: Global,
     name: &Name,
     arguments: Bares,
     delta: &DeltaRule,
+    room: &mut u64,
 ) -> Result<Bare, NoMemory>
-    ensures { IfOk result (λ bare. bare ≡ unfolded_application delta.now name.now arguments) }
+    ensures value { IfOk result (λ bare. bare ≡ unfolded_application delta.now name.now arguments) }
+    ensures counted { IfOk result (λ bare. weight bare + room.new ≤ room.old + 1 + weights arguments) }
 {
     if *name == delta.constant && delta.count == arguments.len() {
-        opened(alloc, &delta.body, &arguments)
+        opened_within(alloc, &delta.body, &arguments, room)
     } else {
         Ok(Bare::App(name.copy(alloc)?, arguments))
     }

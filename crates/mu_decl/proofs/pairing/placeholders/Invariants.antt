@@ -1,5 +1,5 @@
 use Rattle.std.proofs.Common.{◌≡◌, length}
-use Rattle.mu_decl.proofs.comparing.placeholders.Given as goal
+use Rattle.mu_decl.proofs.pairing.placeholders.Given as goal
 
 abbrev pub invariant-loop-made : goal.invariant-loop-made
 invariant-loop-made l = length l.trees ≡ l.made

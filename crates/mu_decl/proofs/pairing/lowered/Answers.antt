@@ -1,6 +1,6 @@
 use Rattle.std.proofs.Common.{◌≡◌, true, false, refl}
 use Rattle.mu_decl.proofs.InStep.{only_before, none_before}
-use Rattle.mu_decl.proofs.comparing.lowered.Goals as goal
+use Rattle.mu_decl.proofs.pairing.lowered.Goals as goal
 
 pub returns-then-same : goal.returns-then-same
 returns-then-same c = only_before c.in_ok-binders.binders c.args.by c.in_ok-low.low c.in_ok-back.back c.args.tree.now c.in_ok-binders.ensures c.in_ok-low.ensures.value c.in_ok-back.ensures (c.if-same.ensures.0 refl)
