@@ -1,17 +1,14 @@
 -- The answer to one line: its command carried out on a store, and the reply.
 use Rattle.std.specs.Prelude.{ℕ, Bool, true, false, ◌||◌, ◌&&◌, ◌++◌, ◌==◌, nat_lt, if◌then◌else◌, List, [], ◌∷◌, length, Option, Some, None, codes}
-use Rattle.std.specs.Bool.{nat_eq}
 use Rattle.std.specs.Option.{option_map_or}
-use Rattle.std.specs.List.{list_any}
-use Rattle.std.specs.Cmp.Lexicographic.{pointwise}
 use Rattle.std.specs.FinMap as finite
 use Rattle.mu_tree.specs.declared.refusal.Refusal.{Refusal}
 use Rattle.mu_tree.specs.declared.refusal.Refusal.TheVariants.{Syntax, Limit, Unknown}
 use Rattle.mu_tree.specs.declared.refusal.LimitWord.{LimitWord}
 use Rattle.mu_text.specs.Reading.{is_blank}
 use Rattle.mu_text.specs.Lexemes.{Lexeme, after_first, items_of}
-use Rattle.mu_text.specs.Parts.{first_as}
-use Rattle.mu_text.specs.SimpleParts.{name_of}
+use Rattle.mu_text.specs.Parts.{first_as, starts}
+use Rattle.mu_text.specs.SimpleParts.{is_word, name_of}
 use Rattle.mu_decl.specs.declared.declaration.Statement.{Statement}
 use Rattle.mu_flat.specs.Base.{is_base, is_base_constant}
 use Rattle.mu_flat.specs.Entries.{Entries}
@@ -105,17 +102,18 @@ answered outcome = record { entries = outcome.entries; reply = Some outcome.repl
 abbrev pub carry_out : Entries → Command → Answer
 carry_out entries command = if touches_base command then no_command entries 1 else answered (step entries command)
 
--- the first token is a name that passes the test
-abbrev pub names : (List ℕ → Bool) → List Lexeme → Bool
-names test ts = option_map_or test (first_as name_of ts) false
+-- the first token is the word of a form that declares something in a theory, which follows
+abbrev pub declares : List Lexeme → Bool
+declares ts =
+    starts (is_word (codes "theory")) ts || (starts (is_word (codes "const")) ts || (starts (is_word (codes "axiom")) ts || starts (is_word (codes "rule")) ts))
 
--- the word of a form that declares something in a theory, which follows
-abbrev pub is_declaring : List ℕ → Bool
-is_declaring text = list_any (pointwise nat_eq text) (codes "theory" ∷ codes "const" ∷ codes "axiom" ∷ codes "rule" ∷ [])
+-- the first token names a constant of the base theory
+abbrev pub names_base_constant : List Lexeme → Bool
+names_base_constant ts = option_map_or is_base_constant (first_as name_of ts) false
 
 -- the tokens of a command begin as those of one that touches the base theory: this is the theory, or a constant of it is to be declared
 abbrev pub begins_in_base : List Lexeme → Bool
-begins_in_base ts = names is_declaring ts && (names is_base (after_first ts) || names (pointwise nat_eq (codes "const")) ts && names is_base_constant (after_first (after_first ts)))
+begins_in_base ts = declares ts && (starts (is_word (codes "base")) (after_first ts) || (starts (is_word (codes "const")) ts && names_base_constant (after_first (after_first ts))))
 
 -- a command that passes a limit is refused for it, unless it touches the base theory
 abbrev pub past_limit : Entries → List Lexeme → LimitWord → Answer

@@ -3,9 +3,9 @@ ghost use Rattle.std.specs.Option.{option_copied};
 ghost use Rattle.std.specs.FinMap as finite;
 ghost use Rattle.mu_command.specs.Plain.{HasPlainNames};
 ghost use Rattle.mu_flat.specs.Entries.{Entries};
-ghost use Rattle.mu_text.specs.Lexemes.{items_of};
+ghost use Rattle.mu_text.specs.Lexemes.{items, items_of};
 ghost use Rattle.mu_edit.specs.Changes.{refusal};
-ghost use Rattle.mural.specs.Answers.{answer, begins_in_base, carry_out, is_declaring as declaring_test, is_quiet as quiet_test, outcome, past_limit, queried as asked_for, query as query_outcome, status_page, touches_base as base_test};
+ghost use Rattle.mural.specs.Answers.{answer, begins_in_base, carry_out, declares as declaring_test, is_quiet as quiet_test, names_base_constant as base_name_test, outcome, past_limit, queried as asked_for, query as query_outcome, status_page, touches_base as base_test};
 
 use crate::reply::Reply;
 use mu_command::{Command, Reading, read};
@@ -13,8 +13,8 @@ use mu_decl::{Context, Statement};
 use mu_edit::apply;
 use mu_flat::{EditFault, Store, is_base, is_base_constant};
 use mu_status::{RuleStatus, status};
-use mu_text::parts::name_bytes;
-use mu_text::{Reader, Tokens, is_blank, parts};
+use mu_text::parts::{name_bytes, sees_word};
+use mu_text::{Reader, Token, Tokens, is_blank};
 use mu_tree::{Bytes, LimitWord, Name, NoMemory, Refusal};
 use std::alloc::Global;
 
@@ -64,29 +64,47 @@ fn past_limit(alloc: Global, line: &[u8], word: LimitWord) -> Result<Reply, NoMe
     ensures { IfOk result (λ reply. (entries : Entries) → past_limit entries (items_of line.now) word ≡ record { entries = entries; reply = Some reply }) }
 {
     let tokens = Tokens::read(alloc, line)?;
-    if begins_in_base(Reader::new(line, tokens.items())) {
+    if begins_in_base(line, tokens.items()) {
         return Ok(no_command(1));
     }
     Ok(Reply::Refused(Refusal::Limit(word)))
 }
 
-/// Whether a command with these tokens touches the base theory.
-fn begins_in_base(mut reader: Reader) -> bool
-    ensures { result ≡ begins_in_base reader }
+/// Whether a command of the line's tokens touches the base theory.
+fn begins_in_base(line: &[u8], tokens: &[Token]) -> bool
+    ensures { result ≡ begins_in_base (items line.now tokens.now) }
 {
-    let declares = name_bytes(&reader).is_some_and(is_declaring);
-    let is_constant = parts::sees_word(&reader, b"const");
+    let mut reader = Reader::new(line, tokens);
+    let is_constant = sees_word(&reader, b"const");
+    if !declares(&reader) {
+        return false;
+    }
     reader.skip();
-    let in_base = name_bytes(&reader).is_some_and(is_base);
+    if sees_word(&reader, b"base") {
+        return true;
+    }
     reader.skip();
-    declares && (in_base || is_constant && name_bytes(&reader).is_some_and(is_base_constant))
+    is_constant && names_base_constant(&reader)
 }
 
-/// Whether a form with this word declares something in the theory that follows.
-fn is_declaring(text: &[u8]) -> bool
-    ensures { result ≡ declaring_test text.now }
+/// Whether the first token is the word of a form that declares something in a theory, which follows.
+fn declares(reader: &Reader) -> bool
+    ensures { result ≡ declaring_test reader.now }
 {
-    matches!(text, b"theory" | b"const" | b"axiom" | b"rule")
+    sees_word(reader, b"theory")
+        || sees_word(reader, b"const")
+        || sees_word(reader, b"axiom")
+        || sees_word(reader, b"rule")
+}
+
+/// Whether the first token names a constant of the base theory.
+fn names_base_constant(reader: &Reader) -> bool
+    ensures { result ≡ base_name_test reader.now }
+{
+    match name_bytes(reader) {
+        Some(text) => is_base_constant(text),
+        None => false,
+    }
 }
 
 /// Whether the line is blanks, or its first other byte is `#`.
