@@ -1,58 +1,33 @@
 -- Commands are read exactly.
-use Rattle.std.proofs.Common.{◌≡◌, ℕ, Bool, true, false, List, [], ◌∷◌, ◌++◌, Some, refl, ap, sym, ◌∙◌, subst, append-nil}
-use Rattle.std.specs.Prelude.{find, cond, codes}
+use Rattle.std.proofs.Common.{◌≡◌, ℕ, Bool, List, [], ◌∷◌, ◌++◌, refl, ap, sym, ◌∙◌, subst, append-nil}
+use Rattle.std.specs.Prelude.{codes}
 use Rattle.mu_text.specs.declared.symbol.Mark.{Mark}
-use Rattle.mu_text.specs.declared.symbol.Mark.TheVariants.{Arrow, Colon}
+use Rattle.mu_text.specs.declared.symbol.Mark.TheVariants.{Colon}
 use Rattle.mu_text.specs.Lexemes.{Lexeme, word, mark}
 use Rattle.mu_text.specs.declared.symbol.Word.TheVariants.{Plain}
-use Rattle.mu_text.specs.Parts.{Nothing, OneToken, End, given_back, Then, chain, token}
+use Rattle.mu_text.specs.Parts.{Nothing, End, given_back, Then, chain}
 use Rattle.mu_text.specs.Rows.{Values, SpellsRow}
-use Rattle.mu_text.specs.SimpleParts.{is_word, name_of, has_bytes, AnyName, GivenWord, read_word, read_name}
+use Rattle.mu_text.specs.SimpleParts.{is_word, AnyName, GivenWord, read_word, read_name}
 use Rattle.mu_text.specs.Groups.{Optional}
 use Rattle.mu_text.proofs.Exact.{Exact, Exact-same, Exact-chain, Exact-pure, Exact-token}
-use Rattle.mu_text.proofs.Simple.{Any, Exact-mark, Exact-name, Exact-plain_name, Exact-kind, Exact-word, from_bytes, is_own_word}
+use Rattle.mu_text.proofs.Simple.{Any, Exact-mark, Exact-name, Exact-plain_name, Exact-word, is_own_word}
 use Rattle.mu_text.proofs.Choice.{Passes, Fails}
 use Rattle.mu_text.proofs.Complete.{Follows}
 use Rattle.mu_text.proofs.Trees.{Exact-tree}
 use Rattle.mu_text.proofs.Claims.{NoClaim, Exact-claim}
 use Rattle.mu_text.proofs.Reasons.{NoReason, Exact-reason}
-use Rattle.mu_text.proofs.Groups.{NoOpen, Exact-argument_kinds, Exact-optional}
+use Rattle.mu_text.proofs.Groups.{Exact-optional}
+use Rattle.mu_text.proofs.Declarations.{Exact-declaration}
 use Rattle.mu_text.proofs.Rows as rows
 use Rattle.mu_command.specs.declared.forms.Form.{Form}
 use Rattle.mu_command.specs.declared.forms.Form.TheVariants.{Theory, Constant, Axiom, Rule, Proof, Line, Cite, Status}
-use Rattle.mu_command.specs.Forms.{keyword, forms, form_of, FormWord, read_form}
-use Rattle.mu_command.specs.Parts.{Part, name, plain, given, sign, kind, arguments, before, tree, claim, reason, Value, IsBefore, SpellsPart, read_before, read_part}
+use Rattle.mu_command.specs.Forms.{form_of, FormWord, read_form}
+use Rattle.mu_command.specs.Parts.{Part, name, plain, given, sign, declaration, before, tree, claim, reason, Value, IsBefore, SpellsPart, read_before, read_part}
 use Rattle.mu_command.specs.Grammar.{row, Spelled, Written, Spells, read_parts, read_command}
-
--- what is found passes the test
-found_passes : {A : Type 0} (test : A → Bool) (xs : List A) (x : A) → find test xs ≡ Some x → test x ≡ true
-found_passes test [] x e = cc
-found_passes test (y ∷ xs) x e = by_first (test y) refl e (found_passes test xs x)
-  where
-    by_first : (b : Bool) → test y ≡ b → cond b (Some y) (find test xs) ≡ Some x → (find test xs ≡ Some x → test x ≡ true) → test x ≡ true
-    by_first true i e later = let same : y ≡ x = cc in subst (λ z. test z ≡ true) same i
-    by_first false i e later = later e
-
--- the word of a form is its own alone
-own_form : (form : Form) → find (λ other. has_bytes (keyword other) (Some (keyword form))) forms ≡ Some form
-own_form Theory = refl
-own_form Constant = refl
-own_form Axiom = refl
-own_form Rule = refl
-own_form Proof = refl
-own_form Line = refl
-own_form Cite = refl
-own_form Status = refl
-
-to_word : (ts : List Lexeme) (form : Form) → OneToken form_of ts form → FormWord ts form
-to_word ts form g = (g.0, g.1, from_bytes (keyword form) (name_of g.0) (found_passes (λ other. is_word (keyword other) g.0) forms form g.2))
-
-from_word : (ts : List Lexeme) (form : Form) → FormWord ts form → OneToken form_of ts form
-from_word ts form g = (g.0, g.1, ap (λ o. find (λ other. has_bytes (keyword other) o) forms) g.2 ∙ own_form form)
 
 pub Exact-form : Exact read_form FormWord Any
 unfolding read_form
-Exact-form = Exact-same (token form_of) (OneToken form_of) FormWord Any to_word from_word (Exact-token form_of (word Plain (keyword Theory)) Theory refl Any)
+Exact-form = Exact-token form_of (word Plain (codes "theory")) Theory refl Any
 
 -- whether the token is the word `before`
 abbrev is_before_word : Lexeme → Bool
@@ -74,7 +49,6 @@ exact_before = Exact-optional is_before_word (chain (read_word (codes "before"))
 
 -- what may follow a part
 abbrev pub Stops : Part → List Lexeme → Type 0
-Stops arguments ts = NoOpen ts
 Stops before ts = NoBefore ts
 Stops tree ts = Follows ts
 Stops claim ts = NoClaim ts
@@ -86,8 +60,7 @@ exact_part name = Exact-name
 exact_part plain = Exact-plain_name
 exact_part (given text) = Exact-word text
 exact_part (sign m) = Exact-mark m
-exact_part kind = Exact-kind
-exact_part arguments = Exact-argument_kinds
+exact_part declaration = Exact-declaration
 exact_part before = exact_before
 exact_part tree = Exact-tree
 exact_part claim = Exact-claim
@@ -104,7 +77,7 @@ none_follows S stops ts v g = subst S (sym g) stops
 -- in each form what follows a part lets it stop there
 linked : (form : Form) → rows.Linked Value read_part SpellsPart Stops (row form)
 linked Theory = (λ ts v g. tt, tt)
-linked Constant = (λ ts v g. tt, (λ ts v g. tt, (mark_follows NoOpen Arrow (kind ∷ []) (λ rest. refl), (λ ts v g. tt, (λ ts v g. tt, tt)))))
+linked Constant = (λ ts v g. tt, (λ ts v g. tt, tt))
 linked Axiom = (λ ts v g. tt, (λ ts v g. tt, (λ ts v g. tt, (none_follows NoClaim (tt, tt), tt))))
 linked Rule = (λ ts v g. tt, (λ ts v g. tt, (λ ts v g. tt, (none_follows NoClaim (tt, tt), tt))))
 linked Proof = (λ ts v g. tt, (λ ts v g. tt, tt))

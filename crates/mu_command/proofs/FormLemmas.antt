@@ -1,56 +1,109 @@
 -- The word of a form, and the parts that follow it.
-use Rattle.std.proofs.Common.{◌≡◌, ◌∙◌, ap, sym, refl, Bool, true, false}
-use Rattle.std.specs.Prelude.{◌||◌, List, Result, Ok, Err}
+use Rattle.std.proofs.Common.{◌≡◌, ◌∙◌, ap, sym, refl}
+use Rattle.std.specs.Prelude.{List, [], ◌∷◌, ◌++◌, Option, Some, Result, Ok, Err, option_and_then}
+use Rattle.mu_tables.specs.Words.{number_of}
+use Rattle.mu_tables.specs.Tables.{the_forms}
+use Rattle.mu_text.specs.declared.excess.Excess.{Excess}
 use Rattle.mu_text.specs.declared.fault.PartFault.{PartFault}
 use Rattle.mu_text.specs.declared.fault.PartFault.TheVariants.{Mismatch, NoMemory}
-use Rattle.mu_text.specs.Lexemes.{Lexeme}
-use Rattle.mu_text.specs.Parts.{found, ◌>>=◌, Read, Gives, Same}
-use Rattle.mu_text.specs.declared.excess.Excess.{Excess}
-use Rattle.mu_text.specs.declared.excess.Measured.{Measured}
-use Rattle.mu_text.proofs.Excesses.{same_excess}
-use Rattle.mu_text.specs.Excesses.{no_excess}
-use Rattle.mu_command.specs.Parts.{either_excess}
+use Rattle.mu_text.specs.declared.symbol.Sort.TheVariants as sort
+use Rattle.mu_text.specs.declared.symbol.Word.TheVariants.{Plain, Dotted, True, Meta, Place}
+use Rattle.mu_text.specs.Lexemes.{Lexeme, word, mark, first_sort, first_bytes}
+use Rattle.mu_text.specs.Parts.{Out, found, ◌>>=◌, Read, Gives, Same, first_as}
+use Rattle.mu_text.specs.Rows.{Values, read_row, StandsRow}
+use Rattle.mu_text.specs.Excesses.{Raising, raised}
+use Rattle.mu_text.proofs.Excesses.{raised-append}
 use Rattle.mu_command.specs.declared.command.Command.{Command}
 use Rattle.mu_command.specs.declared.forms.Form.{Form}
-use Rattle.mu_command.specs.Forms.{read_form}
-use Rattle.mu_command.specs.Grammar.{StandsForm, StandsCommand, read_parts, read_command}
+use Rattle.mu_command.specs.Forms.{form_of, numbered, read_form}
+use Rattle.mu_command.specs.Parts.{Part, tree, claim, reason, Value, Meant, read_part, trees_in, StandsPart}
+use Rattle.mu_command.specs.Grammar.{GivesCommand, GivesForm, StandsForm, make, read_command, read_parts, row, trees_of}
 
 -- a command is read by its word and then by the parts of its form
 after_word : (form : Form) (ts mid : List Lexeme) → Read Same (read_form ts) form mid → read_command ts ≡ (read_parts form mid >>= (λ v rest. found (form, v) rest))
 unfolding read_command
-after_word form ts mid word =
-    ap (λ o. o >>= (λ f behind. read_parts f behind >>= (λ v rest. found (f, v) rest))) (word.is ∙ ap (λ f. found f mid) (sym word.stands))
+after_word form ts mid head =
+    ap (λ o. o >>= (λ f behind. read_parts f behind >>= (λ v rest. found (f, v) rest))) (head.is ∙ ap (λ f. found f mid) (sym head.stands))
 
 -- what the parts of a form give is what the command gives
-pub form_then : (form : Form) (ts mid rest : List Lexeme) (answer : Result (Measured Command) PartFault) → Read Same (read_form ts) form mid → Gives (StandsForm form) (read_parts form mid) answer rest
-    → Gives StandsCommand (read_command ts) answer rest
-form_then form ts mid rest (Ok c) word parts = record {
+pub form_then : (form : Form) (before now : Excess) (ts mid rest : List Lexeme) (answer : Result Command PartFault) → Read Same (read_form ts) form mid → GivesForm form before now mid answer rest
+    → GivesCommand before now ts answer rest
+form_then form before now ts mid rest (Ok c) head parts = record {
   value = (form, parts.value);
-  is = after_word form ts mid word ∙ ap (λ o. o >>= (λ v left. found (form, v) left)) parts.is;
+  is = after_word form ts mid head ∙ ap (λ o. o >>= (λ v left. found (form, v) left)) parts.is;
   stands = parts.stands;
 }
-form_then form ts mid rest (Err Mismatch) word parts = after_word form ts mid word ∙ ap (λ o. o >>= (λ v left. found (form, v) left)) parts
-form_then form ts mid rest (Err NoMemory) word parts = tt
+form_then form before now ts mid rest (Err Mismatch) head parts = after_word form ts mid head ∙ ap (λ o. o >>= (λ v left. found (form, v) left)) parts
+form_then form before now ts mid rest (Err NoMemory) head parts = tt
 
 -- where no form is told, no command goes on
-pub form_stops : (ts rest : List Lexeme) (fault : PartFault) → Gives Same (read_form ts) (Err fault) rest → Gives StandsCommand (read_command ts) (Err fault) rest
+pub form_stops : (before now : Excess) (ts rest : List Lexeme) (fault : PartFault) → Gives Same (read_form ts) (Err fault) rest → GivesCommand before now ts (Err fault) rest
 unfolding read_command
-form_stops ts rest Mismatch stops = ap (λ o. o >>= (λ f behind. read_parts f behind >>= (λ v left. found (f, v) left))) stops
-form_stops ts rest NoMemory stops = tt
+form_stops before now ts rest Mismatch stops = ap (λ o. o >>= (λ f behind. read_parts f behind >>= (λ v left. found (f, v) left))) stops
+form_stops before now ts rest NoMemory stops = tt
 
--- a measured value, by its fields
-pub measured_is : {A : Type 0} (m : Measured A) (x : A) (e : Excess) → m.value ≡ x → m.excess ≡ e → m ≡ record { value = x; excess = e }
-measured_is {A} m x e i j =
-    let first : A → Measured A = λ v. record { value = v; excess = m.excess } in
-    let second : Excess → Measured A = λ f. record { value = x; excess = f } in
-    ap first i ∙ ap second j
+-- a form without trees raises no limit
+abbrev HasNoTrees : Form → Type 0
+HasNoTrees form = (v : Values Value (row form)) → trees_of (row form) v ≡ []
 
-or_false : (b : Bool) → b ≡ (b || false)
-or_false true = refl
-or_false false = refl
+raises_none : (form : Form) → HasNoTrees form → (e : Excess) (ts rest : List Lexeme) (answer : Result Command PartFault) → Gives (StandsForm form) (read_parts form ts) answer rest → GivesForm form e e ts answer rest
+raises_none form none e ts rest (Ok c) parts = record { value = parts.value; is = parts.is; stands = (parts.stands, sym (ap (λ ws. raised ws e) (none parts.value))) }
+raises_none form none e ts rest (Err Mismatch) parts = parts
+raises_none form none e ts rest (Err NoMemory) parts = tt
 
--- the excess of the last part alone
-pub last_excess : {A : Type 0} (x : A) (e : Excess) → ◌≡◌ {A = Measured A} (record { value = x; excess = e }) (record { value = x; excess = either_excess e no_excess })
-last_excess {A} x e =
-    let wrap : Excess → Measured A = λ f. record { value = x; excess = f } in
-    ap wrap (same_excess e (either_excess e no_excess) (or_false e.nodes) (or_false e.depth))
+-- what the parts of a form without trees give is what the command gives
+pub form_alone : (form : Form) → HasNoTrees form → (e : Excess) (ts mid rest : List Lexeme) (answer : Result Command PartFault) → Read Same (read_form ts) form mid
+    → Gives (StandsForm form) (read_parts form mid) answer rest → GivesCommand e e ts answer rest
+form_alone form none e ts mid rest answer head parts = form_then form e e ts mid rest answer head (raises_none form none e mid rest answer parts)
+
+-- values of some parts, and the limits that their trees pass
+abbrev RaisesRow : (parts : List Part) → Excess → Excess → Values Value parts → Values Meant parts → Type 0
+RaisesRow parts before now = Raising (StandsRow Value Meant StandsPart parts) (trees_of parts) before now
+
+abbrev pub ReadsRow : (parts : List Part) → Excess → Excess → List Lexeme → Values Meant parts → List Lexeme → Type 0
+ReadsRow parts before now ts k rest = Read (RaisesRow parts before now) (read_row Value read_part parts ts) k rest
+
+-- the end of a row
+pub ends : {e : Excess} {ts : List Lexeme} → ReadsRow [] e e ts tt ts
+unfolding read_row
+ends = record { value = tt; is = refl; stands = (tt, refl) }
+
+-- a part with trees, and then the rest of the row
+pub raising : (part : Part) {parts : List Part} {before mid now : Excess} {ts behind rest : List Lexeme} {y : Meant part} {k : Values Meant parts}
+    → Read (Raising (StandsPart part) (trees_in part) before mid) (read_part part ts) y behind → ReadsRow parts mid now behind k rest → ReadsRow (part ∷ parts) before now ts (y, k) rest
+unfolding read_row
+raising part {parts} {before} {mid} {now} {ts} {behind} {rest} {y} {k} first next = record {
+  value = (first.value, next.value);
+  is =
+      ap (λ out. out >>= (λ x l. read_row Value read_part parts l >>= (λ xs left. found (x, xs) left))) first.is
+      ∙ ap (λ out. out >>= (λ xs left. found (first.value, xs) left)) next.is;
+  stands = (
+    (first.stands.0, next.stands.0),
+    next.stands.1 ∙ (ap (raised (trees_of parts next.value)) first.stands.1 ∙ sym (raised-append (trees_in part first.value) (trees_of parts next.value) before)),
+  );
+}
+
+-- the part has no trees
+abbrev IsSilent : Part → Type 0
+IsSilent part = (v : Value part) → trees_in part v ≡ []
+
+-- a part without trees, and then the rest of the row
+pub silent : (part : Part) → IsSilent part → {parts : List Part} {before now : Excess} {ts behind rest : List Lexeme} {y : Meant part} {k : Values Meant parts} → Read (StandsPart part) (read_part part ts) y behind
+    → ReadsRow parts before now behind k rest → ReadsRow (part ∷ parts) before now ts (y, k) rest
+silent part none {parts} {before} first next =
+    raising part (record { value = first.value; is = first.is; stands = (first.stands, sym (ap (λ ws. raised ws before) (none first.value))) }) next
+
+-- what is made of a whole row
+pub makes : (form : Form) {before now : Excess} {ts rest : List Lexeme} (k : Values Meant (row form)) (c : Command) → ReadsRow (row form) before now ts k rest → c ≡ make form k → GivesForm form before now ts (Ok c) rest
+unfolding read_parts
+makes form k c row e = record { value = row.value; is = row.is; stands = ((k, row.stands.0, e), row.stands.1) }
+
+-- the form whose word the first token is, where this is a plain word
+pub plain_form : (ts : List Lexeme) → first_sort ts ≡ Some (sort.Word Plain) → first_as form_of ts ≡ option_and_then numbered (number_of (first_bytes ts) the_forms)
+plain_form [] e = cc
+plain_form (word Plain text ∷ rest) e = refl
+plain_form (word Dotted text ∷ rest) e = cc
+plain_form (word True text ∷ rest) e = cc
+plain_form (word Meta text ∷ rest) e = cc
+plain_form (word Place text ∷ rest) e = cc
+plain_form (mark m ∷ rest) e = cc

@@ -1,12 +1,14 @@
 -- What reading a line says of it.
 use Rattle.std.proofs.Common.{◌≡◌, ℕ, ◌-◌, Bool, true, false, List, [], ◌∷◌, length, drop, refl, ap, sym, ◌∙◌, arith}
-use Rattle.std.specs.Prelude.{◌||◌, ◌<◌, ◌≤◌, ◌&&◌, ◌==◌, if◌then◌else◌, nat_le}
+use Rattle.std.specs.Prelude.{◌<◌, ◌≤◌, ◌&&◌, ◌==◌, if◌then◌else◌, nat_le, Option, Some, None, Ok}
 use Rattle.std.specs.List.{list_all, AllByRecursion}
 use Rattle.std.proofs.lemmas.Bool.{false≢true, and_parts}
 use Rattle.std.proofs.lemmas.Bool.Decides.{nat_tests}
 use Rattle.std.proofs.lemmas.List.Splits.{slice_split_none}
 use Rattle.std.proofs.lemmas.List.{length-map}
 use Rattle.std.proofs.lemmas.List.Elements.{All-from_recursion}
+use Rattle.mu_tree.specs.declared.refusal.LimitWord.{LimitWord}
+use Rattle.mu_tree.specs.declared.refusal.LimitWord.TheVariants as limit
 use Rattle.mu_tree.specs.Names.{IsName, is_letter, is_name_byte, is_segment, is_name, is_short, segments}
 use Rattle.mu_text.specs.declared.symbol.Word.TheVariants as word
 use Rattle.mu_text.specs.declared.symbol.Sort.{Sort}
@@ -17,21 +19,20 @@ use Rattle.mu_text.specs.declared.token.TokenSort.TheVariants.{Name, Meta, Place
 use Rattle.mu_text.specs.Reading.{text_of, is_meta}
 use Rattle.mu_text.specs.Tokens.{tokens}
 use Rattle.mu_text.specs.Lexemes.{Lexeme, item, items, items_of, item_of, sort_in, word_in}
-use Rattle.mu_text.specs.Parts.{Out, found, stopped, Read}
+use Rattle.mu_text.specs.Parts.{Out, found, stopped}
 use Rattle.mu_text.proofs.Facts.{IsTokenOf, tokens_hold}
 use Rattle.mu_text.proofs.Whole.{reads_exactly, only_value}
 use Rattle.mu_command.specs.declared.readings.Reading.{Reading}
 use Rattle.mu_command.specs.declared.readings.Reading.TheVariants as reading
 use Rattle.mu_text.specs.Limits.{WithinToken, WithinTokens}
 use Rattle.mu_text.specs.declared.excess.Excess.{Excess}
-use Rattle.mu_text.specs.declared.excess.Measured.{Measured}
 use Rattle.mu_text.specs.Excesses.{excess_of, no_excess}
-use Rattle.mu_text.proofs.Excesses.{same_excess}
+use Rattle.mu_text.proofs.Excesses.{same_excess, raised-none}
 use Rattle.mu_command.specs.declared.command.Command.{Command}
-use Rattle.mu_command.specs.Grammar.{Written, Spells, StandsCommand, command_of, trees_of_command, read_command}
-use Rattle.mu_command.specs.Readings.{AreWithin, IsRead, ReadingIsExact, Says, is_past, within_limits, segments_of, is_short_token, has_short_tokens, column, read_as, reading_of}
+use Rattle.mu_command.specs.Grammar.{Written, Spells, GivesCommand, command_of, trees_of_command, read_command}
+use Rattle.mu_command.specs.Readings.{AreWithin, IsRead, ReadingIsExact, Says, first_limit, limit_of, within_limits, segments_of, is_short_token, has_short_tokens, column, read_as, reading_of}
 use Rattle.mu_command.proofs.Exact.{Exact-command}
-use Rattle.mu_command.proofs.Meant.{command_excess, command_value}
+use Rattle.mu_command.proofs.Meant.{command_meant}
 
 no_dot : (byte : ℕ) → is_name_byte byte ≡ true → (byte == 46) ≡ false
 no_dot byte e = grind (arith, nat_tests)
@@ -90,20 +91,22 @@ line_kept line short = tokens_kept line (tokens line) (tokens_hold line) short
 same_length : (line : List ℕ) → length (items_of line) ≡ length (tokens line)
 same_length line = length-map (tokens line) (item line)
 
-neither : (a b : Bool) → (a || b) ≡ false → (a ≡ false) × (b ≡ false)
-neither true b e = cc
-neither false b e = (refl, e)
+by_tests : (n d : Bool) → (if n then Some limit.Nodes else (if d then Some limit.Depth else None)) ≡ None → (n ≡ false) × (d ≡ false)
+by_tests true d e = cc
+by_tests false true e = cc
+by_tests false false e = (refl, refl)
 
-none_past : (e : Excess) → is_past e ≡ false → e ≡ no_excess
-none_past e i = let parts = neither e.nodes e.depth i in same_excess e no_excess parts.0 parts.1
+-- where no limit is passed, the names are short and no tree is too large
+none_past : (short : Bool) (e : Excess) → first_limit short e ≡ None → (short ≡ true) × (e ≡ no_excess)
+none_past true e i = let parts = by_tests e.nodes e.depth i in (refl, same_excess e no_excess parts.0 parts.1)
+none_past false e i = cc
 
-says_within : (line : List ℕ) (w : Written) → Spells (items_of line) w → (past : Bool) → is_past (excess_of (trees_of_command w)) ≡ past
-    → Says line (if past then reading.Past (excess_of (trees_of_command w)) else reading.Command (command_of w))
-says_within line w g true e = (w, g, refl, e)
-says_within line w g false e = (w, g, none_past (excess_of (trees_of_command w)) e, refl)
+says_within : (line : List ℕ) (w : Written) → Spells (items_of line) w → (passed : Option LimitWord) → limit_of line w ≡ passed → Says line (within_limits passed (command_of w))
+says_within line w g None e = (w, g, e, refl)
+says_within line w g (Some word) e = (w, g, e)
 
-says_as : (line : List ℕ) (out : Out Written) → read_command (items_of line) ≡ out → Says line (read_as (tokens line) out)
-says_as line (found w []) e = says_within line w (reads_exactly read_command Spells Exact-command (items_of line) (found w []) e) (is_past (excess_of (trees_of_command w))) refl
+says_as : (line : List ℕ) (out : Out Written) → read_command (items_of line) ≡ out → Says line (read_as line out)
+says_as line (found w []) e = says_within line w (reads_exactly read_command Spells Exact-command (items_of line) (found w []) e) (limit_of line w) refl
 says_as line (found w (T ∷ rest)) e = (
   length (items_of line) - length (T ∷ rest),
   reads_exactly read_command Spells Exact-command (items_of line) (found w (T ∷ rest)) e,
@@ -115,16 +118,9 @@ says_as line (stopped rest) e = (
   ap (λ n. column (tokens line) (n - length rest)) (sym (same_length line)),
 )
 
-says_by : (line : List ℕ) (short : Bool) → has_short_tokens line ≡ short → Says line (if short then read_as (tokens line) (read_command (items_of line)) else reading.LongName)
-says_by line true e = says_as line (read_command (items_of line)) refl
-says_by line false e = λ short. false≢true (sym e ∙ short)
-
 is_read : (line : List ℕ) → IsRead line
 unfolding reading_of
-is_read line = record {
-  says = says_by line (has_short_tokens line) refl;
-  one = only_value read_command Spells Exact-command (items_of line);
-}
+is_read line = record { says = says_as line (read_command (items_of line)) refl; one = only_value read_command Spells Exact-command (items_of line) }
 
 pub reading_is_exact : ReadingIsExact
 unfolding ReadingIsExact
@@ -145,40 +141,22 @@ none_left : (rest : List Lexeme) → length rest ≡ 0 → rest ≡ []
 none_left [] e = refl
 none_left (T ∷ rest) e = absurd (omega arith)
 
--- a command that is read to the end is what the line reads as, where no limit is passed
-read_whole : (line : List ℕ) (m : Measured Command) (rest : List Lexeme) → has_short_tokens line ≡ true → Read StandsCommand (read_command (items_of line)) m rest → length rest ≡ 0
-    → (w : Written) × (reading_of line ≡ within_limits w) × (m.excess ≡ excess_of (trees_of_command w)) × (excess_of (trees_of_command w) ≡ no_excess → m.value ≡ command_of w)
-unfolding reading_of
-read_whole line m rest short read none =
-    let is : read_command (items_of line) ≡ found read.value [] = read.is ∙ ap (λ r. found read.value r) (none_left rest none) in
-    let spells : Spells (items_of line) read.value = reads_exactly read_command Spells Exact-command (items_of line) (found read.value []) is in (
-      read.value,
-      ap (λ b. if b then read_as (tokens line) (read_command (items_of line)) else reading.LongName) short ∙ ap (λ out. read_as (tokens line) out) is,
-      command_excess read.value m read.stands,
-      command_value read.value (items_of line) m spells (line_kept line short) read.stands,
-    )
-
-value_read : (line : List ℕ) (m : Measured Command) (rest : List Lexeme) → has_short_tokens line ≡ true → Read StandsCommand (read_command (items_of line)) m rest → length rest ≡ 0
-    → is_past m.excess ≡ false → reading.Command m.value ≡ reading_of line
-value_read line m rest short read none past =
-    let h = read_whole line m rest short read none in
-    let here : is_past (excess_of (trees_of_command h.0)) ≡ false = ap is_past (sym h.2) ∙ past in
-    ap (λ c. reading.Command c) (h.3 (none_past (excess_of (trees_of_command h.0)) here))
-    ∙ (sym (ap (λ b. if b then reading.Past (excess_of (trees_of_command h.0)) else reading.Command (command_of h.0)) here) ∙ sym h.1)
-
-past_read : (line : List ℕ) (m : Measured Command) (rest : List Lexeme) → has_short_tokens line ≡ true → Read StandsCommand (read_command (items_of line)) m rest → length rest ≡ 0
-    → is_past m.excess ≡ true → reading.Past m.excess ≡ reading_of line
-past_read line m rest short read none past =
-    let h = read_whole line m rest short read none in
-    let here : is_past (excess_of (trees_of_command h.0)) ≡ true = ap is_past (sym h.2) ∙ past in
-    ap (λ e. reading.Past e) h.2
-    ∙ (sym (ap (λ b. if b then reading.Past (excess_of (trees_of_command h.0)) else reading.Command (command_of h.0)) here) ∙ sym h.1)
-
 -- what the code answers of a command that is read to the end is what the line reads as
-pub read_value : (line : List ℕ) (m : Measured Command) (rest : List Lexeme) (answer : Reading) → has_short_tokens line ≡ true → Read StandsCommand (read_command (items_of line)) m rest → length rest ≡ 0
-    → answer ≡ (if is_past m.excess then reading.Past m.excess else reading.Command m.value) → answer ≡ reading_of line
-read_value line m rest answer short read none is = is ∙ by_limit (is_past m.excess) refl
+pub read_value : (line : List ℕ) (c : Command) (e : Excess) (rest : List Lexeme) (answer : Reading) → GivesCommand no_excess e (items_of line) (Ok c) rest → length rest ≡ 0
+    → answer ≡ within_limits (first_limit (has_short_tokens line) e) c → answer ≡ reading_of line
+unfolding reading_of
+read_value line c e rest answer read none is =
+    is ∙ (ap (λ x. within_limits (first_limit (has_short_tokens line) x) c) (read.stands.1 ∙ raised-none (trees_of_command read.value))
+    ∙ (by_limit (limit_of line read.value) refl ∙ sym (ap (read_as line) whole)))
   where
-    by_limit : (past : Bool) → is_past m.excess ≡ past → (if past then reading.Past m.excess else reading.Command m.value) ≡ reading_of line
-    by_limit true e = past_read line m rest short read none e
-    by_limit false e = value_read line m rest short read none e
+    whole : read_command (items_of line) ≡ found read.value []
+    whole = read.is ∙ ap (λ r. found read.value r) (none_left rest none)
+
+    spells : Spells (items_of line) read.value
+    spells = reads_exactly read_command Spells Exact-command (items_of line) (found read.value []) whole
+
+    by_limit : (passed : Option LimitWord) → limit_of line read.value ≡ passed → within_limits passed c ≡ within_limits passed (command_of read.value)
+    by_limit None i =
+        let within = none_past (has_short_tokens line) (excess_of (trees_of_command read.value)) i in
+        ap (λ x. reading.Command x) (command_meant read.value (items_of line) c spells (line_kept line within.0) read.stands.0 within.1)
+    by_limit (Some word) i = refl

@@ -1,5 +1,5 @@
 -- What a command that is read declares, and where, have plain names.
-use Rattle.std.proofs.Common.{◌≡◌, ℕ, ◌+◌, Bool, true, false, List, [], ◌∷◌, length, Some, refl, ap, sym, ◌∙◌, subst, arith}
+use Rattle.std.proofs.Common.{◌≡◌, ℕ, ◌+◌, Bool, true, false, List, [], ◌∷◌, ◌++◌, length, Some, refl, ap, sym, ◌∙◌, subst, arith}
 use Rattle.std.specs.Prelude.{◌-◌, slice_index, ◌==◌, nat_le, count_by, codes, if◌then◌else◌}
 use Rattle.std.specs.Bool.{nat_eq}
 use Rattle.std.specs.List.{list_all, join_with_byte, AllByRecursion}
@@ -9,7 +9,7 @@ use Rattle.std.proofs.lemmas.List.Splits.{length-slice_split, join_with_byte-sli
 use Rattle.mu_tree.specs.Names.{is_segment, segments, is_name}
 use Rattle.mu_text.specs.declared.symbol.Word.TheVariants.{Plain, Dotted, True}
 use Rattle.mu_text.specs.declared.symbol.Mark.{Mark}
-use Rattle.mu_text.specs.declared.symbol.Mark.TheVariants.{And, Or, Not}
+use Rattle.mu_text.specs.declared.symbol.Mark.TheVariants.{And, Or, Not, Arrow}
 use Rattle.mu_text.specs.declared.symbol.Sort.TheVariants as sort
 use Rattle.mu_text.specs.declared.token.Token.{Token}
 use Rattle.mu_text.specs.declared.token.TokenSort.{TokenSort}
@@ -26,7 +26,7 @@ use Rattle.mu_command.specs.declared.command.Command.{Command}
 use Rattle.mu_command.specs.declared.forms.Form.{Form}
 use Rattle.mu_command.specs.declared.forms.Form.TheVariants.{Theory, Constant, Axiom, Rule, Proof, Line, Cite, Status}
 use Rattle.mu_command.specs.declared.readings.Reading.TheVariants as reading
-use Rattle.mu_command.specs.Parts.{Part, name, plain, given, sign, kind, arguments, before, tree, claim, reason, Value, SpellsPart}
+use Rattle.mu_command.specs.Parts.{Part, name, plain, given, sign, declaration, before, tree, claim, reason, Value, SpellsPart}
 use Rattle.mu_command.specs.Grammar.{row, Spelled, command_of}
 use Rattle.mu_command.specs.Readings.{ReadingIsExact, Says, reading_of}
 use Rattle.mu_command.specs.Plain.{IsPlain, HasPlainNames}
@@ -98,6 +98,7 @@ plain_spelled ts text are g = let first = subst (AllByRecursion IsPlainItem) g.1
 -- the value of a part that is a plain name is one
 abbrev IsPlainPart : (part : Part) → Value part → Type 0
 IsPlainPart plain v = IsPlain v
+IsPlainPart declaration v = IsPlain v.name
 IsPlainPart _ v = Unit {0}
 
 -- so are those of a row
@@ -110,8 +111,8 @@ part_plain plain ts v are g = plain_spelled ts v are g
 part_plain name ts v are g = tt
 part_plain (given text) ts v are g = tt
 part_plain (sign m) ts v are g = tt
-part_plain kind ts v are g = tt
-part_plain arguments ts v are g = tt
+part_plain declaration ts v are g =
+    let here = all_parts IsPlainItem g.0 (g.1 ++ (mark Arrow ∷ g.2)) (subst (AllByRecursion IsPlainItem) g.3 are) in plain_spelled g.0 v.name here.0 g.4
 part_plain before ts v are g = tt
 part_plain tree ts v are g = tt
 part_plain claim ts v are g = tt

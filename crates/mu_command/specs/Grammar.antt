@@ -1,24 +1,24 @@
 -- Which tokens are those of a command, and which command that is.
-use Rattle.std.specs.Prelude.{◌≡◌, List, [], ◌∷◌, ◌++◌, codes}
+use Rattle.std.specs.Prelude.{◌≡◌, List, [], ◌∷◌, ◌++◌, Result, codes}
 use Rattle.mu_text.specs.declared.excess.Excess.{Excess}
-use Rattle.mu_text.specs.declared.excess.Measured.{Measured}
-use Rattle.mu_text.specs.declared.symbol.Mark.TheVariants.{Arrow, Colon}
+use Rattle.mu_text.specs.declared.fault.PartFault.{PartFault}
+use Rattle.mu_text.specs.declared.symbol.Mark.TheVariants.{Colon}
 use Rattle.mu_text.specs.Lexemes.{Lexeme}
-use Rattle.mu_text.specs.Parts.{Out, found, ◌>>=◌}
+use Rattle.mu_text.specs.Parts.{Out, found, ◌>>=◌, Gives}
 use Rattle.mu_text.specs.Rows.{Values, SpellsRow, read_row, Makes}
 use Rattle.mu_text.specs.Writings.{Writing}
-use Rattle.mu_text.specs.Excesses.{no_excess}
+use Rattle.mu_text.specs.Excesses.{Raising}
 use Rattle.mu_command.specs.declared.command.Command.{Command}
 use Rattle.mu_command.specs.declared.command.Command.TheVariants as command
 use Rattle.mu_command.specs.declared.forms.Form.{Form}
 use Rattle.mu_command.specs.declared.forms.Form.TheVariants.{Theory, Constant, Axiom, Rule, Proof, Line, Cite, Status}
 use Rattle.mu_command.specs.Forms.{FormWord, read_form}
-use Rattle.mu_command.specs.Parts.{Part, name, plain, given, sign, kind, arguments, before, tree, claim, reason, Value, SpellsPart, read_part, Meant, meant_part, trees_in, Kept, StandsPart, excess_in, value_in, either_excess}
+use Rattle.mu_command.specs.Parts.{Part, name, plain, given, sign, declaration, before, tree, claim, reason, Value, SpellsPart, read_part, Meant, meant_part, trees_in, StandsPart}
 
 -- the parts that follow the word of a form
 abbrev pub row : Form → List Part
 row Theory = plain ∷ []
-row Constant = plain ∷ plain ∷ arguments ∷ sign Arrow ∷ kind ∷ []
+row Constant = plain ∷ declaration ∷ []
 row Axiom = plain ∷ plain ∷ sign Colon ∷ claim ∷ []
 row Rule = plain ∷ plain ∷ sign Colon ∷ claim ∷ []
 row Proof = name ∷ plain ∷ []
@@ -29,7 +29,7 @@ row Status = name ∷ []
 -- the command of a form, by what is meant by its parts
 abbrev pub make : (form : Form) → Values Meant (row form) → Command
 make Theory v = command.Theory v.0
-make Constant v = command.Constant v.0 v.1.0 v.1.1.0 v.1.1.1.1.0
+make Constant v = command.Constant v.0 v.1.0.name v.1.0.shape v.1.0.result
 make Axiom v = command.Axiom v.0 v.1.0 v.1.1.1.0
 make Rule v = command.Rule v.0 v.1.0 v.1.1.1.0
 make Proof v = command.Proof v.0 v.1.0
@@ -75,24 +75,18 @@ read_parts form ts = read_row Value read_part (row form) ts
 unfoldable pub read_command : List Lexeme → Out Written
 read_command ts = read_form ts >>= (λ form behind. read_parts form behind >>= (λ v rest. found (form, v) rest))
 
--- what is kept of some parts, without limits
-abbrev pub values : (parts : List Part) → Values Kept parts → Values Meant parts
-values [] k = tt
-values (part ∷ parts) k = (value_in part k.0, values parts k.1)
-
--- the limits that what is kept of some parts passes
-abbrev pub excesses : (parts : List Part) → Values Kept parts → Excess
-excesses [] k = no_excess
-excesses (part ∷ parts) k = either_excess (excess_in part k.0) (excesses parts k.1)
-
--- the command of a form that is made of what is kept of its parts, with the limits that they pass
-abbrev pub make_kept : (form : Form) → Values Kept (row form) → Measured Command
-make_kept form k = record { value = make form (values (row form) k); excess = excesses (row form) k }
-
--- the command stands for the spelled parts of a form
-abbrev pub StandsForm : (form : Form) → Spelled form → Measured Command → Type 0
-StandsForm form v m = Makes Value Kept StandsPart (row form) (make_kept form) v m
+-- the command is made of values that stand for the spelled parts of a form
+abbrev pub StandsForm : (form : Form) → Spelled form → Command → Type 0
+StandsForm form v c = Makes Value Meant StandsPart (row form) (make form) v c
 
 -- the command stands for the written one
-abbrev pub StandsCommand : Written → Measured Command → Type 0
-StandsCommand w m = StandsForm w.0 w.1 m
+abbrev pub StandsCommand : Written → Command → Type 0
+StandsCommand w c = StandsForm w.0 w.1 c
+
+-- what a call answers stands for what the parts of a form give, and the limits that its trees pass were raised
+abbrev pub GivesForm : (form : Form) → Excess → Excess → List Lexeme → Result Command PartFault → List Lexeme → Type 0
+GivesForm form before now ts answer rest = Gives (Raising (StandsForm form) (trees_of (row form)) before now) (read_parts form ts) answer rest
+
+-- what a call answers stands for what the command gives, and the limits that its trees pass were raised
+abbrev pub GivesCommand : Excess → Excess → List Lexeme → Result Command PartFault → List Lexeme → Type 0
+GivesCommand before now ts answer rest = Gives (Raising StandsCommand trees_of_command before now) (read_command ts) answer rest

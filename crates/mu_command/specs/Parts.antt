@@ -1,30 +1,28 @@
--- The parts that commands are made of: what each is spelled by, what reads it, what is kept of it, and what is meant by it.
-use Rattle.std.specs.Prelude.{ℕ, ◌||◌, List, [], ◌∷◌, Option, codes}
+-- The parts that commands are made of: what each is spelled by, what reads it, and what is meant by it.
+use Rattle.std.specs.Prelude.{ℕ, List, [], ◌∷◌, Option, codes}
 use Rattle.mu_tree.specs.declared.trees.Tree.{Tree}
-use Rattle.mu_tree.specs.declared.claim.Kind.{Kind}
 use Rattle.mu_tree.specs.declared.claim.Claim.{Claim}
 use Rattle.mu_tree.specs.declared.why.Why.{Why}
-use Rattle.mu_text.specs.declared.excess.Excess.{Excess}
-use Rattle.mu_text.specs.declared.excess.Measured.{Measured}
+use Rattle.mu_text.specs.declared.parts.declarations.DeclaredConstant.{DeclaredConstant}
 use Rattle.mu_text.specs.declared.symbol.Mark.{Mark}
 use Rattle.mu_text.specs.Lexemes.{Lexeme}
 use Rattle.mu_text.specs.Parts.{Out, Same, Then, chain}
-use Rattle.mu_text.specs.SimpleParts.{AnyName, PlainName, GivenMark, GivenWord, OneKind, StandsName, is_word, read_mark, read_word, read_name, read_plain_name, read_kind}
-use Rattle.mu_text.specs.Groups.{ArgumentKinds, read_argument_kinds, Optional, optional, StandsOptional}
+use Rattle.mu_text.specs.SimpleParts.{AnyName, PlainName, GivenMark, GivenWord, StandsName, is_word, read_mark, read_word, read_name, read_plain_name}
+use Rattle.mu_text.specs.Groups.{Optional, optional, StandsOptional}
+use Rattle.mu_text.specs.Declarations.{IsDeclaration, StandsDeclaration, read_declaration}
 use Rattle.mu_text.specs.Writings.{Writing, tree_of}
 use Rattle.mu_text.specs.Trees.{OneTree, read_tree}
 use Rattle.mu_text.specs.Claims.{Sentence, IsClaim, StandsClaim, claim_of, trees_in_claim, read_claim}
 use Rattle.mu_text.specs.Reasons.{Reason, IsReason, StandsReason, why_of, trees_in_reason, read_reason}
-use Rattle.mu_text.specs.Excesses.{StandsTree, no_excess}
+use Rattle.mu_text.specs.Excesses.{StandsTree, one_tree}
 
--- a name, one of one segment, a word, a mark, a kind, the kinds of arguments, the item before which another is put, a tree, a claim, and what a line holds by
+-- a name, one of one segment, a word, a mark, the declaration of a constant, the item before which another is put, a tree, a claim, and what a line holds by
 pub data Part : Type 0 where
   name : Part
   plain : Part
   given : List ℕ → Part
   sign : Mark → Part
-  kind : Part
-  arguments : Part
+  declaration : Part
   before : Part
   tree : Part
   claim : Part
@@ -36,8 +34,7 @@ Value name = List ℕ
 Value plain = List ℕ
 Value (given text) = Unit {0}
 Value (sign m) = Unit {0}
-Value kind = Kind
-Value arguments = List Kind
+Value declaration = DeclaredConstant
 Value before = Option (List ℕ)
 Value tree = Writing
 Value claim = Sentence
@@ -53,8 +50,7 @@ SpellsPart name ts v = AnyName ts v
 SpellsPart plain ts v = PlainName ts v
 SpellsPart (given text) ts v = GivenWord text ts v
 SpellsPart (sign m) ts v = GivenMark m ts v
-SpellsPart kind ts v = OneKind ts v
-SpellsPart arguments ts v = ArgumentKinds ts v
+SpellsPart declaration ts v = IsDeclaration ts v
 SpellsPart before ts v = Optional IsBefore ts v
 SpellsPart tree ts v = OneTree ts v
 SpellsPart claim ts v = IsClaim ts v
@@ -70,8 +66,7 @@ read_part name ts = read_name ts
 read_part plain ts = read_plain_name ts
 read_part (given text) ts = read_word text ts
 read_part (sign m) ts = read_mark m ts
-read_part kind ts = read_kind ts
-read_part arguments ts = read_argument_kinds ts
+read_part declaration ts = read_declaration ts
 read_part before ts = read_before ts
 read_part tree ts = read_tree ts
 read_part claim ts = read_claim ts
@@ -83,8 +78,7 @@ Meant name = List ℕ
 Meant plain = List ℕ
 Meant (given text) = Unit {0}
 Meant (sign m) = Unit {0}
-Meant kind = Kind
-Meant arguments = List Kind
+Meant declaration = DeclaredConstant
 Meant before = Option (List ℕ)
 Meant tree = Tree
 Meant claim = Claim
@@ -96,8 +90,7 @@ meant_part name v = v
 meant_part plain v = v
 meant_part (given text) v = v
 meant_part (sign m) v = v
-meant_part kind v = v
-meant_part arguments v = v
+meant_part declaration v = v
 meant_part before v = v
 meant_part tree v = tree_of v
 meant_part claim v = claim_of v
@@ -105,57 +98,19 @@ meant_part reason v = why_of v
 
 -- the trees in a spelled value
 abbrev pub trees_in : (part : Part) → Value part → List Writing
-trees_in tree v = v ∷ []
+trees_in tree v = one_tree v
 trees_in claim v = trees_in_claim v
 trees_in reason v = trees_in_reason v
 trees_in _ v = []
 
--- what is kept of a part: where it has trees, with the limits that they pass
-abbrev pub Kept : Part → Type 0
-Kept name = List ℕ
-Kept plain = List ℕ
-Kept (given text) = Unit {0}
-Kept (sign m) = Unit {0}
-Kept kind = Kind
-Kept arguments = List Kind
-Kept before = Option (List ℕ)
-Kept tree = Measured Tree
-Kept claim = Measured Claim
-Kept reason = Measured Why
-
--- what is kept stands for what is spelled
-abbrev pub StandsPart : (part : Part) → Value part → Kept part → Type 0
+-- what the code has read stands for what is spelled: within the limits it is what is meant
+abbrev pub StandsPart : (part : Part) → Value part → Meant part → Type 0
 StandsPart name v k = StandsName v k
 StandsPart plain v k = StandsName v k
 StandsPart (given text) v k = Same v k
 StandsPart (sign m) v k = Same v k
-StandsPart kind v k = Same v k
-StandsPart arguments v k = Same v k
+StandsPart declaration v k = StandsDeclaration v k
 StandsPart before v k = StandsOptional StandsName v k
 StandsPart tree v k = StandsTree v k
 StandsPart claim v k = StandsClaim v k
 StandsPart reason v k = StandsReason v k
-
--- the limits that what is kept passes
-abbrev pub excess_in : (part : Part) → Kept part → Excess
-excess_in tree k = k.excess
-excess_in claim k = k.excess
-excess_in reason k = k.excess
-excess_in _ k = no_excess
-
--- what is kept, without these limits
-abbrev pub value_in : (part : Part) → Kept part → Meant part
-value_in name k = k
-value_in plain k = k
-value_in (given text) k = k
-value_in (sign m) k = k
-value_in kind k = k
-value_in arguments k = k
-value_in before k = k
-value_in tree k = k.value
-value_in claim k = k.value
-value_in reason k = k.value
-
--- the limits that the one or the other passes
-abbrev pub either_excess : Excess → Excess → Excess
-either_excess e f = record { nodes = e.nodes || f.nodes; depth = e.depth || f.depth }

@@ -11,7 +11,7 @@ IsPlain text = is_segment text ≡ true
 -- what the command declares, and where, have plain names
 abbrev pub HasPlainNames : Command → Type 0
 HasPlainNames (command.Theory unit) = IsPlain unit
-HasPlainNames (command.Constant unit name arguments result) = IsPlain unit × IsPlain name
+HasPlainNames (command.Constant unit name shape result) = IsPlain unit × IsPlain name
 HasPlainNames (command.Axiom unit rule claim) = IsPlain unit × IsPlain rule
 HasPlainNames (command.Rule unit rule claim) = IsPlain unit × IsPlain rule
 HasPlainNames (command.Proof rule proof) = IsPlain proof

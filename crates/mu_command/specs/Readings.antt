@@ -1,8 +1,10 @@
 -- What a line reads as.
-use Rattle.std.specs.Prelude.{◌≡◌, ℕ, ◌+◌, ◌-◌, ◌<◌, ◌≤◌, ◌||◌, Bool, true, if◌then◌else◌, List, [], ◌∷◌, length, drop, slice_get}
+use Rattle.std.specs.Prelude.{◌≡◌, ℕ, ◌+◌, ◌-◌, ◌<◌, ◌≤◌, Bool, if◌then◌else◌, List, [], ◌∷◌, length, drop, slice_get, Option, Some, None}
 use Rattle.std.specs.Option.{option_map_or}
 use Rattle.std.specs.List.{list_all, All}
 use Rattle.mu_tree.specs.Names.{is_short}
+use Rattle.mu_tree.specs.declared.refusal.LimitWord.{LimitWord}
+use Rattle.mu_tree.specs.declared.refusal.LimitWord.TheVariants as limit
 use Rattle.mu_text.specs.declared.token.Token.{Token}
 use Rattle.mu_text.specs.declared.token.TokenSort.{TokenSort}
 use Rattle.mu_text.specs.declared.token.TokenSort.TheVariants.{Meta}
@@ -11,7 +13,8 @@ use Rattle.mu_text.specs.Tokens.{tokens}
 use Rattle.mu_text.specs.Lexemes.{items_of}
 use Rattle.mu_text.specs.Parts.{Out, found, stopped, Refused}
 use Rattle.mu_text.specs.declared.excess.Excess.{Excess}
-use Rattle.mu_text.specs.Excesses.{excess_of, no_excess}
+use Rattle.mu_text.specs.Excesses.{excess_of}
+use Rattle.mu_command.specs.declared.command.Command.{Command}
 use Rattle.mu_command.specs.declared.readings.Reading.{Reading}
 use Rattle.mu_command.specs.declared.readings.Reading.TheVariants as reading
 use Rattle.mu_command.specs.Grammar.{Written, Spells, command_of, trees_of_command, read_command}
@@ -41,31 +44,35 @@ column_behind ts = option_map_or (λ token. token.to + 1) (slice_get ts (length 
 abbrev pub column : List Token → ℕ → ℕ
 column ts at = option_map_or (λ token. token.from + 1) (slice_get ts at) (column_behind ts)
 
--- whether a limit is passed
-abbrev pub is_past : Excess → Bool
-is_past e = e.nodes || e.depth
+-- the first limit that is passed, by whether the names are within theirs and by the limits that trees pass: names go before nodes, and these before depth
+abbrev pub first_limit : Bool → Excess → Option LimitWord
+first_limit short e = if short then (if e.nodes then Some limit.Nodes else (if e.depth then Some limit.Depth else None)) else Some limit.Name
 
--- the command that is written, or the limits that its trees pass
-abbrev pub within_limits : Written → Reading
-within_limits w = if is_past (excess_of (trees_of_command w)) then reading.Past (excess_of (trees_of_command w)) else reading.Command (command_of w)
+-- the first limit that a line passes on which this command is written
+abbrev pub limit_of : List ℕ → Written → Option LimitWord
+limit_of line w = first_limit (has_short_tokens line) (excess_of (trees_of_command w))
+
+-- the command, or the limit that is passed
+abbrev pub within_limits : Option LimitWord → Command → Reading
+within_limits None c = reading.Command c
+within_limits (Some word) c = reading.Limit word
 
 -- what reading a line's tokens says of it
-abbrev pub read_as : List Token → Out Written → Reading
-read_as ts (found w []) = within_limits w
-read_as ts (found w (T ∷ rest)) = reading.Refused (column ts (length ts - length (T ∷ rest)))
-read_as ts (stopped rest) = reading.Refused (column ts (length ts - length rest))
+abbrev pub read_as : List ℕ → Out Written → Reading
+read_as line (found w []) = within_limits (limit_of line w) (command_of w)
+read_as line (found w (T ∷ rest)) = reading.Refused (column (tokens line) (length (tokens line) - length (T ∷ rest)))
+read_as line (stopped rest) = reading.Refused (column (tokens line) (length (tokens line) - length rest))
 
 -- what a line reads as
 unfoldable pub reading_of : List ℕ → Reading
-reading_of line = if has_short_tokens line then read_as (tokens line) (read_command (items_of line)) else reading.LongName
+reading_of line = read_as line (read_command (items_of line))
 
--- what a reading says of a line: its tokens are those of the command, whose trees are within the limits; or they are those of a command with a tree past some; or commands begin with its tokens up to
--- the column, and none with that one; or a segment is too long
+-- what a reading says of a line: its tokens are those of the command, which passes no limit; or they are those of a command of which this is the first limit that is passed; or commands begin with its
+-- tokens up to the column, and none with that one
 abbrev pub Says : List ℕ → Reading → Type 0
-Says line (reading.Command c) = (w : Written) × Spells (items_of line) w × (excess_of (trees_of_command w) ≡ no_excess) × (c ≡ command_of w)
-Says line (reading.Past e) = (w : Written) × Spells (items_of line) w × (e ≡ excess_of (trees_of_command w)) × (is_past e ≡ true)
+Says line (reading.Command c) = (w : Written) × Spells (items_of line) w × (limit_of line w ≡ None) × (c ≡ command_of w)
+Says line (reading.Limit word) = (w : Written) × Spells (items_of line) w × (limit_of line w ≡ Some word)
 Says line (reading.Refused at) = (place : ℕ) × Refused Spells (items_of line) place × (at ≡ column (tokens line) place)
-Says line reading.LongName = (has_short_tokens line ≡ true) → ⊥
 
 -- the law of reading: a line is read as what its tokens say, and as one command at most
 pub record IsRead (line : List ℕ) : Type 0 where

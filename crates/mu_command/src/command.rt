@@ -1,4 +1,4 @@
-use mu_tree::{Claim, Kind, Kinds, Name, Tree, Why};
+use mu_tree::{Claim, Kind, Name, Shape, Tree, Why};
 
 /// What one line of the input asks for.
 #[derive(Debug, Drop)]
@@ -7,11 +7,13 @@ pub enum Command {
     Theory {
         unit: Name,
     },
-    /// `const U c(k, ..) -> k`: a new constant.
+    /// `const U c(k, ..) -> k` or `const U c{k} -> k`: a new constant.
     Constant {
         unit: Name,
         name: Name,
-        arguments: Kinds,
+        /// How it is used.
+        shape: Shape,
+        /// The kind of what it makes.
         result: Kind,
     },
     /// `axiom U r : claim`: a new axiom.

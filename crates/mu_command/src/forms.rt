@@ -1,14 +1,13 @@
 ghost use Rattle.std.specs.Prelude.{◌≡◌, find};
-ghost use Rattle.mu_text.specs.Parts.{Gives, Same, starts};
-ghost use Rattle.mu_text.specs.SimpleParts.{is_word};
-ghost use Rattle.mu_command.specs.Forms.{keyword, forms, first_form, read_form};
+ghost use Rattle.mu_text.specs.Parts.{Gives, Same, first_as};
+ghost use Rattle.mu_command.specs.Forms.{form_of, forms, number, numbered, read_form};
 
-use mu_text::parts::sees_word;
-use mu_text::{PartFault, Reader};
+use mu_tables::forms;
+use mu_text::{PartFault, Reader, Sort, Word};
 
 /// The forms of commands.
 #[derive(Clone, Copy, Debug, PartialEq, Eq)]
-pub enum Form {
+pub(crate) enum Form {
     Theory,
     Constant,
     Axiom,
@@ -30,28 +29,37 @@ const ALL: [Form; 8] = [
     Form::Status,
 ];
 
-/// The word that a command of the form begins with.
-pub fn keyword(form: Form) -> &'static [u8]
-    ensures { result.now ≡ keyword form }
+/// The number of the form in the table of words.
+fn number(form: Form) -> u8
+    ensures { result ≡ number form }
 {
     match form {
-        Form::Theory => b"theory",
-        Form::Constant => b"const",
-        Form::Axiom => b"axiom",
-        Form::Rule => b"rule",
-        Form::Proof => b"proof",
-        Form::Line => b"line",
-        Form::Cite => b"cite",
-        Form::Status => b"status",
+        Form::Theory => 1,
+        Form::Constant => 2,
+        Form::Axiom => 3,
+        Form::Rule => 4,
+        Form::Proof => 5,
+        Form::Line => 6,
+        Form::Cite => 7,
+        Form::Status => 8,
     }
 }
 
-fn first_form(reader: &Reader) -> Option<Form>
-    ensures { result ≡ first_form reader.now }
+fn numbered(n: u8) -> Option<Form>
+    ensures { result ≡ numbered n }
 {
-    ALL.iter()
-        .copied()
-        .find(|form| sees_word(reader, keyword(*form)))
+    ALL.iter().copied().find(|form| number(*form) == n)
+}
+
+/// The form whose word the first token is.
+#[tactic(auto, using(crate::proofs::FormLemmas::plain_form))]
+fn first_form(reader: &Reader) -> Option<Form>
+    ensures { result ≡ first_as form_of reader.now }
+{
+    match reader.peek() {
+        Some(Sort::Word(Word::Plain)) => forms().find(reader.bytes()).and_then(numbered),
+        _ => None,
+    }
 }
 
 /// Reads the word that says of which form a command is.

@@ -7,6 +7,5 @@ mod grammar;
 mod readings;
 
 pub use command::Command;
-pub use forms::{Form, keyword};
 pub use grammar::read_command;
 pub use readings::{Reading, read};

@@ -30,7 +30,7 @@ unrefused proofs label false free = absurd (cc)
 pub changed_acyclic : (e : Entries) (c : Command) → IsAcyclic (leads e.proofs) → refusal e c ≡ None → IsAcyclic (leads (changed e c).proofs)
 unfolding refusal changed
 changed_acyclic e (Theory unit) acyclic free = acyclic
-changed_acyclic e (Constant unit name arguments result) acyclic free = acyclic
+changed_acyclic e (Constant unit name shape result) acyclic free = acyclic
 changed_acyclic e (Axiom unit rule claim) acyclic free = acyclic
 changed_acyclic e (Rule unit rule claim) acyclic free = acyclic
 changed_acyclic e (Proof rule proof) acyclic free = fewer_edges_acyclic _ (leads e.proofs) (empty_leads e.proofs rule proof) acyclic

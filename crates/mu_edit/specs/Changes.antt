@@ -4,7 +4,6 @@ use Rattle.std.specs.Option.{option_or}
 use Rattle.std.specs.FinMap as finite
 use Rattle.mu_tree.specs.declared.refusal.Refusal.{Refusal}
 use Rattle.mu_tree.specs.declared.refusal.Refusal.TheVariants.{Unknown, Taken}
-use Rattle.mu_tree.specs.declared.claim.Shape.TheVariants as shape
 use Rattle.mu_proof.specs.declared.items.Item.TheVariants as item
 use Rattle.mu_decl.specs.declared.declaration.Statement.{Statement}
 use Rattle.mu_flat.specs.declared.edits.EditFault.{EditFault}
@@ -31,7 +30,7 @@ declared_refusal e unit there name = option_or (unknown_unless (finite.contains_
 -- why a command is refused: the first reason that fits
 unfoldable pub refusal : Entries → Command → Option Refusal
 refusal e (Theory unit) = taken_where (finite.contains_key e.theories unit) unit
-refusal e (Constant unit name arguments result) = declared_refusal e unit (finite.contains_key e.constants name) name
+refusal e (Constant unit name shape result) = declared_refusal e unit (finite.contains_key e.constants name) name
 refusal e (Axiom unit rule claim) = declared_refusal e unit (finite.contains_key e.rules rule) rule
 refusal e (Rule unit rule claim) = declared_refusal e unit (finite.contains_key e.rules rule) rule
 refusal e (Proof rule proof) = taken_where (is_some (proof_at e.proofs rule proof)) proof
@@ -42,7 +41,7 @@ refusal e (Status rule) = None
 -- the store after a command that is not refused
 unfoldable pub changed : Entries → Command → Entries
 changed e (Theory unit) = with_theory e unit
-changed e (Constant unit name arguments result) = with_constant e name (record { theory = unit; shape = shape.Plain arguments; result = result })
+changed e (Constant unit name shape result) = with_constant e name (record { theory = unit; shape = shape; result = result })
 changed e (Axiom unit rule claim) = with_rule e rule (record { theory = unit; is_axiom = true; claim = claim })
 changed e (Rule unit rule claim) = with_rule e rule (record { theory = unit; is_axiom = false; claim = claim })
 changed e (Proof rule proof) = with_items e rule proof []
@@ -53,7 +52,7 @@ changed e (Status rule) = e
 -- what a command would store may be stored: what it declares has a plain name that is not the base theory's
 abbrev pub IsStorable : Command → Type 0
 IsStorable (Theory unit) = IsPlain unit × (is_base unit ≡ false)
-IsStorable (Constant unit name arguments result) = IsPlain name × (is_base_constant name ≡ false)
+IsStorable (Constant unit name shape result) = IsPlain name × (is_base_constant name ≡ false)
 IsStorable (Axiom unit rule claim) = IsPlain rule
 IsStorable (Rule unit rule claim) = IsPlain rule
 IsStorable (Proof rule proof) = Unit {0}

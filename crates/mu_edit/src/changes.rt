@@ -5,7 +5,7 @@ use mu_command::Command;
 use mu_decl::{ConstDecl, Statement};
 use mu_flat::{EditFault, Store};
 use mu_proof::Item;
-use mu_tree::{Claim, Kind, Kinds, Name, Refusal, Shape, Tree};
+use mu_tree::{Claim, Kind, Name, Refusal, Shape, Tree};
 use std::alloc::Global;
 
 /// Carries out a command. A query changes nothing.
@@ -24,9 +24,9 @@ pub fn apply(alloc: Global, store: &mut Store, command: Command) -> Result<(), E
         Command::Constant {
             unit,
             name,
-            arguments,
+            shape,
             result,
-        } => add_constant(store, unit, name, arguments, result),
+        } => add_constant(store, unit, name, shape, result),
         Command::Axiom { unit, rule, claim } => add_axiom(store, unit, rule, claim),
         Command::Rule { unit, rule, claim } => add_rule(store, unit, rule, claim),
         Command::Proof { rule, proof } => add_proof(alloc, store, rule, proof),
@@ -65,11 +65,11 @@ fn add_constant(
     store: &mut Store,
     unit: Name,
     name: Name,
-    arguments: Kinds,
+    shape: Shape,
     kind: Kind,
 ) -> Result<(), EditFault>
-    requires { IsStorable (Command.Constant unit name arguments kind) }
-    ensures { Applies store.old store.new (Command.Constant unit name arguments kind) result }
+    requires { IsStorable (Command.Constant unit name shape kind) }
+    ensures { Applies store.old store.new (Command.Constant unit name shape kind) result }
 {
     if !store.is_theory(&unit) {
         return Err(EditFault::Refused(Refusal::Unknown(unit)));
@@ -79,7 +79,7 @@ fn add_constant(
     }
     let declared = ConstDecl {
         theory: unit,
-        shape: Shape::Plain(arguments),
+        shape,
         result: kind,
     };
     store.add_constant(name, declared)?;

@@ -3,13 +3,18 @@ use Rattle.std.proofs.Common.{◌≡◌, true, List, [], ◌∷◌, ◌++◌, in
 use Rattle.mu_text.specs.declared.symbol.Mark.{Mark}
 use Rattle.mu_text.specs.declared.symbol.Mark.TheVariants.{Semicolon, Turnstile}
 use Rattle.mu_text.specs.Lexemes.{Lexeme, mark}
-use Rattle.mu_text.specs.Parts.{Nothing, given_back, Then, chain, Made, mapped, Or, More, read_more}
+use Rattle.mu_text.specs.Parts.{Nothing, given_back, Then, chain, Made, mapped, Or, More, StandsEach, read_more}
 use Rattle.mu_text.specs.SimpleParts.{GivenMark, read_mark}
 use Rattle.mu_text.specs.Writings.{Writing}
 use Rattle.mu_text.specs.Trees.{OneTree, read_tree}
-use Rattle.mu_text.specs.Claims.{Hypothesis, plain, Sentence, IsHypothesis, IsClaim, goes_on, concluding, read_hypothesis, read_hypotheses, read_concluded, read_after, read_claim}
+use Rattle.mu_text.specs.Claims.{Hypothesis, plain, Sentence, IsHypothesis, IsClaim, StandsHypothesis, StandsClaim, trees_in_hypothesis, trees_in_claim, goes_on, concluding, read_hypothesis, read_hypotheses, read_concluded, read_after, read_claim}
+use Rattle.mu_text.specs.declared.excess.Excess.{Excess}
+use Rattle.mu_tree.specs.declared.claim.Hyp.{Hyp}
+use Rattle.mu_tree.specs.declared.trees.Tree.{Tree}
+use Rattle.mu_text.specs.Excesses.{raised, in_each, one_tree, Raising, StandsTree}
+use Rattle.mu_text.proofs.Excesses.{raised-append}
 use Rattle.mu_text.proofs.Choice.{Passes, Fails, Exact-either}
-use Rattle.mu_text.proofs.Complete.{Follows, is_no_opener, free_mark}
+use Rattle.mu_text.proofs.Complete.{Follows, MayFollow, plain_follows}
 use Rattle.mu_text.proofs.Exact.{Exact, Exact-same, Exact-chain, Exact-mapped, Exact-pure, Exact-before}
 use Rattle.mu_text.proofs.Lists.{Exact-more}
 use Rattle.mu_text.proofs.Simple.{Any, Exact-mark}
@@ -44,13 +49,13 @@ ending_is : (hs : List Hypothesis) (ts : List Lexeme) (y : Sentence) → Ending 
 ending_is hs ts y g = (g.2, g.5.0, g.3 ∙ ap (λ l. l ++ g.2) g.4, g.5.1, g.5.2)
 
 link_ending : (hs : List Hypothesis) (ts : List Lexeme) (y : Sentence) (rest : List Lexeme) → Ending hs ts y → Follows rest → NoSemicolon (ts ++ rest)
-link_ending hs ts y rest g s = let e = ending_is hs ts y g in subst (λ (l : List Lexeme). NoSemicolon (l ++ rest)) (sym e.2) (free_mark Turnstile refl, refl)
+link_ending hs ts y rest g s = let e = ending_is hs ts y g in subst (λ (l : List Lexeme). NoSemicolon (l ++ rest)) (sym e.2) (plain_follows Turnstile 0 refl refl, refl)
 
 exact_concluded : (h : Hypothesis) → Exact (read_concluded h) (Concluded h) Follows
 exact_concluded h =
     Exact-chain (read_hypotheses h) (λ hs. chain (read_mark Turnstile) (λ _. mapped (concluding hs) read_tree)) (Made (λ hs. h ∷ hs) (More Semicolon IsHypothesis)) Ending NoSemicolon Follows
     (Exact-mapped (λ hs. h ∷ hs) (read_more Semicolon read_hypothesis) (More Semicolon IsHypothesis) NoSemicolon
-    (Exact-more Semicolon read_hypothesis IsHypothesis Follows Exact-hypothesis (λ rest. free_mark Semicolon refl)))
+    (Exact-more Semicolon read_hypothesis IsHypothesis Follows Exact-hypothesis (λ rest. plain_follows Semicolon 0 refl refl)))
     exact_ending link_ending
 
 -- what follows the first hypothesis begins with a mark
@@ -58,12 +63,12 @@ pub record Marked (ts : List Lexeme) : Type 0 where
   pub sign : Mark
   pub rest : List Lexeme
   pub is : ts ≡ mark sign ∷ rest
-  pub free : is_no_opener sign ≡ true
+  pub free : MayFollow 0 (mark sign)
   pub further : goes_on (mark sign) ≡ true
 
 marked_hypotheses : (ts a b : List Lexeme) (hs : List Hypothesis) → ts ≡ a ++ b → More Semicolon IsHypothesis a hs → (c : List Lexeme) → b ≡ mark Turnstile ∷ c → Marked ts
-marked_hypotheses ts a b [] e g c i = record { sign = Turnstile; rest = c; is = e ∙ (ap (λ l. l ++ b) g ∙ i); free = refl; further = refl }
-marked_hypotheses ts a b (h ∷ hs) e g c i = record { sign = Semicolon; rest = (g.0 ++ g.1) ++ b; is = e ∙ ap (λ l. l ++ b) g.2; free = refl; further = refl }
+marked_hypotheses ts a b [] e g c i = record { sign = Turnstile; rest = c; is = e ∙ (ap (λ l. l ++ b) g ∙ i); free = plain_follows Turnstile 0 refl refl; further = refl }
+marked_hypotheses ts a b (h ∷ hs) e g c i = record { sign = Semicolon; rest = (g.0 ++ g.1) ++ b; is = e ∙ ap (λ l. l ++ b) g.2; free = plain_follows Semicolon 0 refl refl; further = refl }
 
 marked : (h : Hypothesis) (ts : List Lexeme) (y : Sentence) → Concluded h ts y → Marked ts
 marked h ts y g = let e = ending_is g.0 g.2 y g.5 in marked_hypotheses ts g.1 g.2 g.4.0 g.3 g.4.1 e.0 e.2
@@ -84,7 +89,7 @@ exact_after (plain w) =
     (Exact-pure (concluding [] w) NoClaim) (concluded_passes (plain w)) (alone_fails (concluding [] w))
 
 link_after : (h : Hypothesis) (ts : List Lexeme) (y : Sentence) (rest : List Lexeme) → After h ts y → NoClaim rest → Follows (ts ++ rest)
-link_after (plain w) ts y rest (inl g) s = let m : Marked ts = marked (plain w) ts y g in subst (λ (l : List Lexeme). Follows (l ++ rest)) (sym m.is) (free_mark m.sign m.free)
+link_after (plain w) ts y rest (inl g) s = let m : Marked ts = marked (plain w) ts y g in subst (λ (l : List Lexeme). Follows (l ++ rest)) (sym m.is) m.free
 link_after (plain w) ts y rest (inr g) s = subst (λ (l : List Lexeme). Follows (l ++ rest)) (sym g.0) s.0
 
 to_claim : (h : Hypothesis) (ts a b : List Lexeme) (y : Sentence) → ts ≡ a ++ b → IsHypothesis a h → After h b y → IsClaim ts y
@@ -116,3 +121,8 @@ unfolding read_claim
 Exact-claim =
     Exact-same read_claim (Then IsHypothesis After) IsClaim NoClaim (λ ts y g. to_claim g.0 ts g.1 g.2 y g.3 g.4 g.5) (λ ts y g. from_claim ts y.hyps y.conclusion g)
     (Exact-chain read_hypothesis read_after IsHypothesis After Follows NoClaim Exact-hypothesis exact_after link_after)
+
+-- hypotheses and a conclusion, together
+pub claim_stands : (hs : List Hypothesis) (w : Writing) (start mid now : Excess) (hyps : List Hyp) (t : Tree) → Raising (StandsEach StandsHypothesis) (in_each trees_in_hypothesis) start mid hs hyps
+    → Raising StandsTree one_tree mid now w t → Raising StandsClaim trees_in_claim start now (concluding hs w) (record { hyps = hyps; conclusion = t })
+claim_stands hs w start mid now hyps t s r = ((s.0, r.0), r.1 ∙ (ap (raised (w ∷ [])) s.1 ∙ sym (raised-append (in_each trees_in_hypothesis hs) (w ∷ []) start)))

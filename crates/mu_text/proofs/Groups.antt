@@ -1,17 +1,16 @@
 -- Parts made of others are read exactly.
 use Rattle.std.proofs.Common.{◌≡◌, Bool, List, [], ◌∷◌, ◌++◌, Option, Some, None, inl, inr, refl, ap, sym, ◌∙◌, subst, append-nil}
-use Rattle.mu_tree.specs.declared.claim.Kind.{Kind}
 use Rattle.mu_text.specs.declared.symbol.Mark.{Mark}
-use Rattle.mu_text.specs.declared.symbol.Mark.TheVariants.{Open, Close}
+use Rattle.mu_text.specs.declared.symbol.Mark.TheVariants.{Open, Close, OpenBracket, CloseBracket}
 use Rattle.mu_text.specs.Lexemes.{Lexeme, mark}
 use Rattle.mu_text.specs.Marks.{is_mark}
 use Rattle.mu_text.specs.Parts.{Out, Nothing, given_back, Then, chain, Or}
-use Rattle.mu_text.specs.SimpleParts.{GivenMark, SomeKinds, read_mark, read_kinds}
-use Rattle.mu_text.specs.Groups.{Enclosed, enclosed, Optional, optional, ArgumentKinds, read_argument_kinds}
+use Rattle.mu_text.specs.SimpleParts.{GivenMark, SomeKinds, SomeVars, read_mark, read_kinds, read_vars}
+use Rattle.mu_text.specs.Groups.{Enclosed, enclosed, Optional, optional, Bracketed, bracketed, ArgumentKinds, read_argument_kinds, Parameters, read_parameters}
 use Rattle.mu_text.proofs.Marks.{own_mark}
 use Rattle.mu_text.proofs.Choice.{Passes, Fails, Exact-either}
 use Rattle.mu_text.proofs.Exact.{Exact, Exact-same, Exact-chain, Exact-pure, Exact-before}
-use Rattle.mu_text.proofs.Simple.{Any, NoComma, Exact-mark, Exact-kinds}
+use Rattle.mu_text.proofs.Simple.{Any, NoComma, Exact-mark, Exact-kinds, Exact-vars}
 
 pub both_empty : (a b : List Lexeme) → a ≡ [] → b ≡ [] → a ++ b ≡ []
 both_empty a b e i = rw (e, i) refl
@@ -90,31 +89,42 @@ module _ {A : Type 0} (test : Lexeme → Bool) (p : List Lexeme → Out A) (G : 
       Exact-same (optional test p) (Or Present (Nothing None)) (Optional G) NotBegun to_optional from_optional
       (Exact-either test (chain p (λ x. given_back (Some x))) (given_back None) Present (Nothing None) NotBegun exact_given (Exact-pure None NotBegun) given_passes none_fails)
 
+module _ {A : Type 0} (left right : Mark) (p : List Lexeme → Out (List A)) (G : List Lexeme → List A → Type 0) (S : List Lexeme → Type 0) (P : Exact p G S) (right_stops : (rest : List Lexeme) → S (mark right ∷ rest))
+    (some : (ts : List Lexeme) → G ts [] → ⊥) where
+  -- no list between the two marks begins here
+  abbrev pub NotOpened : List Lexeme → Type 0
+  NotOpened rest = Fails (is_mark left) rest
+
+  to_bracketed : (ts : List Lexeme) (xs : List A) → Or (Enclosed left right G) (Nothing []) ts xs → Bracketed left right G ts xs
+  to_bracketed ts [] (inl g) = absurd (some g.0 g.2)
+  to_bracketed ts (x ∷ xs) (inl g) = g
+  to_bracketed ts xs (inr g) = subst (λ (l : List A). Bracketed left right G ts l) (sym g.1) g.0
+
+  from_bracketed : (ts : List Lexeme) (xs : List A) → Bracketed left right G ts xs → Or (Enclosed left right G) (Nothing []) ts xs
+  from_bracketed ts [] g = inr (g, refl)
+  from_bracketed ts (x ∷ xs) g = inl g
+
+  pub Exact-bracketed : Exact (bracketed left right p) (Bracketed left right G) NotOpened
+  Exact-bracketed =
+      Exact-same (bracketed left right p) (Or (Enclosed left right G) (Nothing [])) (Bracketed left right G) NotOpened to_bracketed from_bracketed
+      (Exact-either (is_mark left) (enclosed left right p) (given_back []) (Enclosed left right G) (Nothing []) NotOpened
+      (Exact-before (enclosed left right p) (Enclosed left right G) Any NotOpened (λ rest h. tt) (Exact-enclosed left right p G S P right_stops))
+      (Exact-pure [] NotOpened)
+      (enclosed_passes left right p G S P right_stops)
+      (λ ts xs rest g s. subst (λ (l : List Lexeme). Fails (is_mark left) (l ++ rest)) (sym g.0) s))
+
 -- no list of arguments begins here
 abbrev pub NoOpen : List Lexeme → Type 0
 NoOpen rest = Fails (is_mark Open) rest
 
-abbrev Parenthesized : List Lexeme → List Kind → Type 0
-Parenthesized = Enclosed Open Close SomeKinds
-
-exact_parenthesized : Exact (enclosed Open Close read_kinds) Parenthesized Any
-exact_parenthesized = Exact-enclosed Open Close read_kinds SomeKinds NoComma Exact-kinds (λ rest. (tt, refl))
-
-to_arguments : (ts : List Lexeme) (kinds : List Kind) → Or Parenthesized (Nothing []) ts kinds → ArgumentKinds ts kinds
-to_arguments ts [] (inl g) = absurd g.2
-to_arguments ts (kind ∷ kinds) (inl g) = g
-to_arguments ts kinds (inr g) = subst (λ (l : List Kind). ArgumentKinds ts l) (sym g.1) g.0
-
-from_arguments : (ts : List Lexeme) (kinds : List Kind) → ArgumentKinds ts kinds → Or Parenthesized (Nothing []) ts kinds
-from_arguments ts [] g = inr (g, refl)
-from_arguments ts (kind ∷ kinds) g = inl g
-
 pub Exact-argument_kinds : Exact read_argument_kinds ArgumentKinds NoOpen
 unfolding read_argument_kinds
-Exact-argument_kinds =
-    Exact-same read_argument_kinds (Or Parenthesized (Nothing [])) ArgumentKinds NoOpen to_arguments from_arguments
-    (Exact-either (is_mark Open) (enclosed Open Close read_kinds) (given_back []) Parenthesized (Nothing []) NoOpen
-    (Exact-before (enclosed Open Close read_kinds) Parenthesized Any NoOpen (λ rest h. tt) exact_parenthesized)
-    (Exact-pure [] NoOpen)
-    (enclosed_passes Open Close read_kinds SomeKinds NoComma Exact-kinds (λ rest. (tt, refl)))
-    (λ ts kinds rest g s. subst (λ (l : List Lexeme). Fails (is_mark Open) (l ++ rest)) (sym g.0) s))
+Exact-argument_kinds = Exact-bracketed Open Close read_kinds SomeKinds NoComma Exact-kinds (λ rest. (tt, refl)) (λ ts g. g)
+
+-- no list of parameters begins here
+abbrev pub NoBracket : List Lexeme → Type 0
+NoBracket rest = Fails (is_mark OpenBracket) rest
+
+pub Exact-parameters : Exact read_parameters Parameters NoBracket
+unfolding read_parameters
+Exact-parameters = Exact-bracketed OpenBracket CloseBracket read_vars SomeVars NoComma Exact-vars (λ rest. (tt, refl)) (λ ts g. g)

@@ -1,27 +1,36 @@
--- Where the names of the tokens are within the limit, so are those of what they spell.
-use Rattle.std.proofs.Common.{◌≡◌, ℕ, ◌-◌, true, List, [], ◌∷◌, ◌++◌, Some, refl, sym, ◌∙◌, subst}
+-- Where the names of the tokens are within the limit and no tree passes one, what was read is what is meant.
+use Rattle.std.proofs.Common.{◌≡◌, ℕ, ◌-◌, true, List, [], ◌∷◌, ◌++◌, Some, None, map, refl, ap, sym, ◌∙◌, subst}
 use Rattle.std.specs.Prelude.{codes, ◌&&◌}
 use Rattle.std.specs.List.{AllByRecursion, list_all}
 use Rattle.std.proofs.lemmas.Bool.{and_parts}
 use Rattle.mu_tree.specs.Names.{is_name, is_short, IsName}
+use Rattle.mu_tree.specs.declared.claim.Hyp.{Hyp}
+use Rattle.mu_tree.specs.declared.claim.Hyp.TheVariants as hyp
+use Rattle.mu_tree.specs.declared.claim.Claim.{Claim}
+use Rattle.mu_tree.specs.declared.why.Ref.{Ref}
 use Rattle.mu_tree.specs.declared.why.Ref.TheVariants as ref
-use Rattle.mu_text.specs.declared.excess.Measured.{Measured}
+use Rattle.mu_tree.specs.declared.why.Given.{Given}
+use Rattle.mu_tree.specs.declared.why.Why.{Why}
+use Rattle.mu_tree.specs.declared.why.Why.TheVariants as why
+use Rattle.mu_text.specs.declared.parts.declarations.DeclaredConstant.{DeclaredConstant}
 use Rattle.mu_text.specs.declared.symbol.Word.{Word}
 use Rattle.mu_text.specs.declared.symbol.Word.TheVariants.{Plain, Dotted, True, Meta, Place}
 use Rattle.mu_text.specs.declared.symbol.Mark.{Mark}
-use Rattle.mu_text.specs.declared.symbol.Mark.TheVariants.{And, Or, Not, Comma, Semicolon, Close, Turnstile}
+use Rattle.mu_text.specs.declared.symbol.Mark.TheVariants.{And, Or, Not, Comma, Semicolon, OpenBracket, CloseBracket, Close, CloseBrace, Dot, Becomes, Turnstile, Arrow}
 use Rattle.mu_text.specs.Lexemes.{Lexeme, word, mark}
-use Rattle.mu_text.specs.Parts.{More, Separated}
-use Rattle.mu_text.specs.SimpleParts.{plain_name_of, name_of, meta_of, PlainName, AnyName, MetaName}
-use Rattle.mu_text.specs.Writings.{Writing, Writings, leaf, apply, one, more, tokens, tokens_of, is_head, Fits, FitsAll, Short, ShortAll}
+use Rattle.mu_text.specs.Parts.{More, Separated, StandsEach}
+use Rattle.mu_text.specs.SimpleParts.{plain_name_of, name_of, var_of, meta_of, PlainName, AnyName, VarName, MetaName, SomeVars, StandsName}
+use Rattle.mu_text.specs.Groups.{Parameters}
+use Rattle.mu_text.specs.Writings.{Writing, Writings, leaf, apply, bind, paren, neg, bin, one, more, tokens, tokens_of, closer, is_head, Fits, FitsAll, Short, ShortAll, tree_of}
 use Rattle.mu_text.specs.Trees.{OneTree}
-use Rattle.mu_text.specs.References.{IsReference, SomeReferences, WithinReference}
-use Rattle.mu_text.specs.Claims.{Hypothesis, plain, IsHypothesis, Claims, IsClaim, WithinHypothesis, WithinClaim}
-use Rattle.mu_text.specs.Reasons.{IsAbstraction, SomeAbstractions, WithinAbstraction, by_rule, Led, IsReason, WithinReason}
-use Rattle.mu_text.specs.Excesses.{no_excess, IsMeasured}
-use Rattle.mu_text.specs.Limits.{is_within, WithinToken, WithinTokens, KeepsNames}
-use Rattle.mu_text.proofs.Complete.{applied_head}
-use Rattle.mu_text.proofs.Excesses.{all_parts}
+use Rattle.mu_text.specs.References.{IsReference, SomeReferences, StandsReference}
+use Rattle.mu_text.specs.Claims.{Hypothesis, plain, Sentence, IsHypothesis, Claims, IsClaim, StandsHypothesis, StandsClaim, hyp_of, claim_of, trees_in_hypothesis, trees_in_claim}
+use Rattle.mu_text.specs.Reasons.{AbstractionWriting, IsAbstraction, SomeAbstractions, StandsAbstraction, given_of, trees_in_abstraction, Reason, by_rule, Led, IsReason, StandsReason, why_of, trees_in_reason}
+use Rattle.mu_text.specs.Declarations.{IsDeclaration, StandsDeclaration}
+use Rattle.mu_text.specs.Excesses.{excess_of, no_excess, in_each, one_tree, StandsTree}
+use Rattle.mu_text.specs.Limits.{is_within, WithinToken, WithinTokens, KeepsNames, IsMeant, no_trees}
+use Rattle.mu_text.proofs.Complete.{binder_head}
+use Rattle.mu_text.proofs.Excesses.{all_parts, none_together, tree_kept}
 
 and_within : IsName (codes "and")
 and_within = record { spelled = refl; short = refl }
@@ -81,6 +90,14 @@ plain_name-keeps ts text h g = plain_within g.0 text g.2 (at g.1 h).0
 pub name-keeps : KeepsNames AnyName IsName
 name-keeps ts text h g = name_within g.0 text g.2 (at g.1 h).0
 
+var_within : (T : Lexeme) (text : List ℕ) → var_of T ≡ Some text → WithinToken T → IsName text
+var_within (word Plain name) text e h = move name text e h
+var_within (word _ name) text e h = cc
+var_within (mark m) text e h = cc
+
+pub var-keeps : KeepsNames VarName IsName
+var-keeps ts text h g = var_within g.0 text g.2 (at g.1 h).0
+
 pub meta-keeps : KeepsNames MetaName IsName
 meta-keeps ts text h g = meta_within g.0 text g.2 (at g.1 h).0
 
@@ -91,7 +108,15 @@ head_within _ name e h = h
 mutual
   short_tree : (w : Writing) (n : ℕ) → Fits n w → WithinTokens (tokens w) → Short w
   short_tree (leaf head name) n f h = head_within head name f h.0
-  short_tree (apply head name ws) n f h = (head_within head name (applied_head head f.0) h.0, short_trees ws (n - 1) f.2 (all_parts WithinToken (tokens_of ws) (mark Close ∷ []) h.1.1).0)
+  short_tree (apply head name ws) n f h = (head_within head name f.0 h.0, short_trees ws (n - 1) f.2 (all_parts WithinToken (tokens_of ws) (closer head ∷ []) h.1.1).0)
+  short_tree (bind head name v d b) n f h =
+      let dom = all_parts WithinToken (tokens d) (mark Dot ∷ (tokens b ++ mark CloseBrace ∷ [])) h.1.1.1.1 in
+      (head_within head name (binder_head head f.0) h.0, h.1.1.0, short_tree d (n - 1) f.2 dom.0, short_tree b (n - 1) f.3 (all_parts WithinToken (tokens b) (mark CloseBrace ∷ []) dom.1.1).0)
+  short_tree (paren w) n f h = short_tree w (n - 1) f.1 (all_parts WithinToken (tokens w) (mark Close ∷ []) h.1).0
+  short_tree (neg w) n f h = short_tree w (n - 1) f.2 h.1
+  short_tree (bin item o a b) n f h =
+      let parts = all_parts WithinToken (tokens a) (item ∷ tokens b) h in
+      (short_tree a n f.2 parts.0, short_tree b (n - o.opens) f.5 parts.1.1)
 
   short_trees : (ws : Writings) (n : ℕ) → FitsAll n ws → WithinTokens (tokens_of ws) → ShortAll ws
   short_trees (one w) n f h = short_tree w n f h
@@ -102,56 +127,108 @@ mutual
 pub tree-keeps : KeepsNames OneTree Short
 tree-keeps ts w h g = short_tree w 400 g.0 (at (sym g.1) h)
 
-module _ {A : Type 0} (sign : Mark) (G : List Lexeme → A → Type 0) (Within : A → Type 0) (keeps : KeepsNames G Within) where
-  more-keeps : KeepsNames (More sign G) (AllByRecursion Within)
-  more-keeps ts [] h g = tt
-  more-keeps ts (x ∷ xs) h g = let parts = all_parts WithinToken g.0 g.1 (at g.2 h).1 in (keeps g.0 x parts.0 g.3, more-keeps g.1 xs parts.1 g.4)
+pub tree-meant : IsMeant OneTree one_tree StandsTree tree_of
+tree-meant ts w t h g e s = s (tree_kept w (tree-keeps ts w h g) e)
 
-  pub separated-keeps : KeepsNames (Separated sign G) (AllByRecursion Within)
-  separated-keeps ts [] h g = tt
-  separated-keeps ts (x ∷ xs) h g = let parts = all_parts WithinToken g.0 g.1 (at g.2 h) in (keeps g.0 x parts.0 g.3, more-keeps g.1 xs parts.1 g.4)
+module _ {A B : Type 0} (G : List Lexeme → A → Type 0) (P : A → Type 0) (S : A → B → Type 0) (meant : A → B)
+    (each : (ts : List Lexeme) (x : A) (y : B) → WithinTokens ts → G ts x → P x → S x y → y ≡ meant x) (sign : Mark) where
+  more_meant : (ts : List Lexeme) (xs : List A) (ys : List B) → WithinTokens ts → More sign G ts xs → AllByRecursion P xs → StandsEach S xs ys → ys ≡ map meant xs
+  more_meant ts [] [] h g p s = refl
+  more_meant ts [] (y ∷ ys) h g p s = absurd s
+  more_meant ts (x ∷ xs) [] h g p s = absurd s
+  more_meant ts (x ∷ xs) (y ∷ ys) h g p s =
+      let parts = all_parts WithinToken g.0 g.1 (at g.2 h).1 in
+      ap (λ z. z ∷ ys) (each g.0 x y parts.0 g.3 p.0 s.0) ∙ ap (λ zs. meant x ∷ zs) (more_meant g.1 xs ys parts.1 g.4 p.1 s.1)
 
-pub reference-keeps : KeepsNames IsReference WithinReference
-reference-keeps ts (ref.Item label) h g = plain_name-keeps ts label h g
-reference-keeps ts (ref.Assumption label n) h g = g
-reference-keeps ts (ref.Hypothesis n) h g = tt
+  separated_meant : (ts : List Lexeme) (xs : List A) (ys : List B) → WithinTokens ts → Separated sign G ts xs → AllByRecursion P xs → StandsEach S xs ys → ys ≡ map meant xs
+  separated_meant ts [] ys h g p s = absurd g
+  separated_meant ts (x ∷ xs) [] h g p s = absurd s
+  separated_meant ts (x ∷ xs) (y ∷ ys) h g p s =
+      let parts = all_parts WithinToken g.0 g.1 (at g.2 h) in
+      ap (λ z. z ∷ ys) (each g.0 x y parts.0 g.3 p.0 s.0) ∙ ap (λ zs. meant x ∷ zs) (more_meant g.1 xs ys parts.1 g.4 p.1 s.1)
 
-pub references-keep : KeepsNames SomeReferences (AllByRecursion WithinReference)
-references-keep = separated-keeps Comma IsReference WithinReference reference-keeps
+  led_meant : (text : List ℕ) (ts : List Lexeme) (xs : List A) (ys : List B) → WithinTokens ts → Led text (Separated sign G) ts xs → AllByRecursion P xs → StandsEach S xs ys → ys ≡ map meant xs
+  led_meant text ts [] [] h g p s = refl
+  led_meant text ts [] (y ∷ ys) h g p s = absurd s
+  led_meant text ts (x ∷ xs) ys h g p s = separated_meant g.1 (x ∷ xs) ys (all_parts WithinToken g.0 g.1 (at g.2 h)).1 g.4 p s
 
-pub hypothesis-keeps : KeepsNames IsHypothesis WithinHypothesis
-hypothesis-keeps ts (plain w) h g = tree-keeps ts w h g
+-- no tree passes a limit in any of the values
+each_none : {A : Type 0} (trees : A → List Writing) (xs : List A) → excess_of (in_each trees xs) ≡ no_excess → AllByRecursion (λ x. excess_of (trees x) ≡ no_excess) xs
+each_none trees [] e = tt
+each_none trees (x ∷ xs) e = let parts = none_together (trees x) (in_each trees xs) e in (parts.0, each_none trees xs parts.1)
 
-claims_keep : (ts : List Lexeme) (hs : List Hypothesis) (w : Writing) → WithinTokens ts → Claims ts hs w → AllByRecursion WithinHypothesis hs × Short w
-claims_keep ts [] w h g = (tt, tree-keeps ts w h g)
-claims_keep ts (x ∷ xs) w h g =
-    let parts = all_parts WithinToken g.0 (mark Turnstile ∷ g.1) (at g.2 h) in
-    (separated-keeps Semicolon IsHypothesis WithinHypothesis hypothesis-keeps g.0 (x ∷ xs) parts.0 g.3, tree-keeps g.1 w parts.1.1 g.4)
+-- nothing is asked of each value
+abbrev Nothing : {A : Type 0} → A → Type 0
+Nothing x = Unit {0}
 
-pub claim-keeps : KeepsNames IsClaim WithinClaim
-claim-keeps ts x h g = claims_keep ts x.hyps x.conclusion h g
+no_more : {A : Type 0} (xs : List A) → AllByRecursion Nothing xs
+no_more [] = tt
+no_more (x ∷ xs) = (tt, no_more xs)
 
-pub abstraction-keeps : KeepsNames IsAbstraction WithinAbstraction
-abstraction-keeps ts x h g = let k = at g.1 h in (k.0, tree-keeps g.0 x.body k.1.1 g.2)
+map_same : {A : Type 0} (xs : List A) → map (λ x. x) xs ≡ xs
+map_same [] = refl
+map_same (x ∷ xs) = ap (λ l. x ∷ l) (map_same xs)
 
-pub abstractions-keep : KeepsNames SomeAbstractions (AllByRecursion WithinAbstraction)
-abstractions-keep = separated-keeps Semicolon IsAbstraction WithinAbstraction abstraction-keeps
+reference_meant : (ts : List Lexeme) (r kept : Ref) → WithinTokens ts → IsReference ts r → Nothing r → StandsReference r kept → kept ≡ r
+reference_meant ts (ref.Item label) (ref.Item kept) h g p s = ap ref.Item (s (plain_name-keeps ts label h g))
+reference_meant ts (ref.Hypothesis n) (ref.Hypothesis number) h g p s = ap ref.Hypothesis s
+reference_meant ts _ _ h g p s = absurd s
 
-pub led-keeps : {A : Type 0} (text : List ℕ) (G : List Lexeme → List A → Type 0) (Within : A → Type 0) → KeepsNames G (AllByRecursion Within) → KeepsNames (Led text G) (AllByRecursion Within)
-led-keeps text G Within keeps ts [] h g = tt
-led-keeps text G Within keeps ts (x ∷ xs) h g = keeps g.1 (x ∷ xs) (all_parts WithinToken g.0 g.1 (at g.2 h)).1 g.4
+hypothesis_meant : (ts : List Lexeme) (h : Hypothesis) (y : Hyp) → WithinTokens ts → IsHypothesis ts h → excess_of (trees_in_hypothesis h) ≡ no_excess → StandsHypothesis h y → y ≡ hyp_of h
+hypothesis_meant ts (plain w) (hyp.Plain tree) h g e s = ap hyp.Plain (tree-meant ts w tree h g e s)
+hypothesis_meant ts (plain w) _ h g e s = absurd s
 
-pub reason-keeps : KeepsNames IsReason WithinReason
-reason-keeps ts (by_rule name refs inst) h g =
-    let first = all_parts WithinToken g.0 (g.1 ++ (g.2 ++ g.3)) (at g.4 h) in
-    let second = all_parts WithinToken g.1 (g.2 ++ g.3) first.1 in
-    let third = all_parts WithinToken g.2 g.3 second.1 in (
-      name-keeps g.1 name second.0 g.6,
-      led-keeps (codes "from") SomeReferences WithinReference references-keep g.2 refs third.0 g.7,
-      led-keeps (codes "with") SomeAbstractions WithinAbstraction abstractions-keep g.3 inst third.1 g.8,
+claims_meant : (ts : List Lexeme) (hs : List Hypothesis) (w : Writing) (y : Claim) → WithinTokens ts → Claims ts hs w → excess_of (in_each trees_in_hypothesis hs) ≡ no_excess → excess_of (one_tree w) ≡ no_excess
+    → StandsEach StandsHypothesis hs y.hyps → StandsTree w y.conclusion → (y.hyps ≡ map hyp_of hs) × (y.conclusion ≡ tree_of w)
+claims_meant ts [] w y h g e i s t = (none y.hyps s, tree-meant ts w y.conclusion h g i t)
+  where
+    none : (ys : List Hyp) → StandsEach StandsHypothesis [] ys → ys ≡ []
+    none [] s = refl
+    none (z ∷ zs) s = absurd s
+claims_meant ts (x ∷ xs) w y h g e i s t =
+    let parts = all_parts WithinToken g.0 (mark Turnstile ∷ g.1) (at g.2 h) in (
+      separated_meant IsHypothesis (λ x. excess_of (trees_in_hypothesis x) ≡ no_excess) StandsHypothesis hyp_of hypothesis_meant Semicolon g.0 (x ∷ xs) y.hyps parts.0 g.3 (each_none trees_in_hypothesis (x ∷ xs) e) s,
+      tree-meant g.1 w y.conclusion parts.1.1 g.4 i t,
     )
 
--- where no flag is set and the names of the tokens are within the limit, the value is the one that the spelled one stands for
-pub value_meant : {A B : Type 0} {trees : A → List Writing} {Within : A → Type 0} {value_of : A → B} (G : List Lexeme → A → Type 0) → KeepsNames G Within → (ts : List Lexeme) (x : A) (m : Measured B)
-    → IsMeasured trees Within value_of x m → G ts x → WithinTokens ts → m.excess ≡ no_excess → m.value ≡ value_of x
-value_meant G keeps ts x m s g h e = s.value_is (sym s.excess_is ∙ e) (keeps ts x h g)
+pub claim-meant : IsMeant IsClaim trees_in_claim StandsClaim claim_of
+claim-meant ts x y h g e s =
+    let none = none_together (in_each trees_in_hypothesis x.hyps) (one_tree x.conclusion) e in
+    let parts = claims_meant ts x.hyps x.conclusion y h g none.0 none.1 s.0 s.1 in
+    ap (λ hs. record { hyps = hs; conclusion = y.conclusion }) parts.0 ∙ ap (λ t. record { hyps = map hyp_of x.hyps; conclusion = t }) parts.1
+
+parameter_meant : (ts : List Lexeme) (text name : List ℕ) → WithinTokens ts → VarName ts text → Nothing text → StandsName text name → name ≡ text
+parameter_meant ts text name h g p s = s (var-keeps ts text h g)
+
+parameters_meant : (ts : List Lexeme) (xs ys : List (List ℕ)) → WithinTokens ts → Parameters ts xs → StandsEach StandsName xs ys → ys ≡ xs
+parameters_meant ts [] [] h g s = refl
+parameters_meant ts [] (y ∷ ys) h g s = absurd s
+parameters_meant ts (x ∷ xs) ys h g s =
+    let inside = all_parts WithinToken g.0 (mark CloseBracket ∷ []) (at g.1 h).1 in
+    separated_meant VarName Nothing StandsName (λ x. x) parameter_meant Comma g.0 (x ∷ xs) ys inside.0 g.2 (no_more (x ∷ xs)) s ∙ map_same (x ∷ xs)
+
+abstraction_meant : (ts : List Lexeme) (x : AbstractionWriting) (y : Given) → WithinTokens ts → IsAbstraction ts x → excess_of (trees_in_abstraction x) ≡ no_excess → StandsAbstraction x y → y ≡ given_of x
+abstraction_meant ts x y h g e s =
+    let k = at g.2 h in
+    let parts = all_parts WithinToken g.0 (mark Becomes ∷ g.1) k.1 in
+    ap (λ m. record { meta = m; params = y.params; body = y.body }) (s.0 k.0)
+    ∙ (ap (λ ps. record { meta = x.meta; params = ps; body = y.body }) (parameters_meant g.0 x.params y.params parts.0 g.3 s.1)
+    ∙ ap (λ t. record { meta = x.meta; params = x.params; body = t }) (tree-meant g.1 x.body y.body parts.1.1 g.4 e s.2))
+
+pub reason-meant : IsMeant IsReason trees_in_reason StandsReason why_of
+reason-meant ts (by_rule name refs inst) (why.Rule rule None kept given) h g e s =
+    let first = all_parts WithinToken g.0 (g.1 ++ (g.2 ++ g.3)) (at g.4 h) in
+    let second = all_parts WithinToken g.1 (g.2 ++ g.3) first.1 in
+    let third = all_parts WithinToken g.2 g.3 second.1 in
+    let same : kept ≡ refs = led_meant IsReference Nothing StandsReference (λ r. r) reference_meant Comma (codes "from") g.2 refs kept third.0 g.7 (no_more refs) s.1 ∙ map_same refs in
+    ap (λ n. why.Rule n None kept given) (s.0 (name-keeps g.1 name second.0 g.6))
+    ∙ (ap (λ r. why.Rule name None r given) same
+    ∙ ap (why.Rule name None refs)
+    (led_meant IsAbstraction (λ x. excess_of (trees_in_abstraction x) ≡ no_excess) StandsAbstraction given_of abstraction_meant Semicolon (codes "with") g.3 inst given third.1 g.8 (each_none trees_in_abstraction inst e) s.2))
+reason-meant ts (by_rule name refs inst) _ h g e s = absurd s
+
+pub declaration-meant : IsMeant IsDeclaration no_trees StandsDeclaration (λ d. d)
+declaration-meant ts d y h g e s =
+    let parts = all_parts WithinToken g.0 (g.1 ++ (mark Arrow ∷ g.2)) (at g.3 h) in
+    ap (λ n. record { name = n; shape = y.shape; result = y.result }) (s.0 (plain_name-keeps g.0 d.name parts.0 g.4))
+    ∙ (ap (λ k. record { name = d.name; shape = k; result = y.result }) s.1 ∙ ap (λ k. record { name = d.name; shape = d.shape; result = k }) s.2)

@@ -4,11 +4,13 @@ use Rattle.std.specs.List.{fold}
 use Rattle.mu_tree.specs.Trees.{size, size_step, depth, depth_step, deepest}
 use Rattle.mu_tree.specs.declared.trees.Tree.{Tree}
 use Rattle.mu_tree.specs.declared.trees.Tree.TheVariants as tree
-use Rattle.mu_tree.specs.declared.trees.Tree.TheOpen.{App, Meta}
+use Rattle.mu_tree.specs.declared.trees.Tree.TheOpen.{App, Meta, Bind}
 use Rattle.mu_tree.specs.declared.trees.Tree.TheFolds.{fold-roll-Tree}
 use Rattle.mu_text.specs.declared.symbol.Word.{Word}
 use Rattle.mu_text.specs.declared.symbol.Word.TheVariants as word
-use Rattle.mu_text.specs.Writings.{Writing, Writings, leaf, apply, one, more, made, tree_of, trees_of, nodes, nodes_of, deep, deep_of}
+use Rattle.mu_text.specs.declared.symbol.Mark.TheVariants.{Not}
+use Rattle.mu_text.specs.Ops.{constant_of}
+use Rattle.mu_text.specs.Writings.{Writing, Writings, leaf, apply, bind, paren, neg, bin, one, more, made, tree_of, trees_of, nodes, nodes_of, deep, deep_of}
 
 size-app : (name : List ℕ) (ts : List Tree) → size (tree.App name ts) ≡ sum (map size ts) + 1
 size-app name ts = ap size (sym (tree.rolls-App name ts)) ∙ fold-roll-Tree ℕ size_step (App name ts)
@@ -21,6 +23,12 @@ depth-app name ts = ap depth (sym (tree.rolls-App name ts)) ∙ fold-roll-Tree �
 
 depth-meta : (name : List ℕ) (ts : List Tree) → depth (tree.Meta name ts) ≡ deepest (map depth ts) + 1
 depth-meta name ts = ap depth (sym (tree.rolls-Meta name ts)) ∙ fold-roll-Tree ℕ depth_step (Meta name ts)
+
+size-bind : (name v : List ℕ) (d b : Tree) → size (tree.Bind name v d b) ≡ size d + size b + 1
+size-bind name v d b = ap size (sym (tree.rolls-Bind name v d b)) ∙ fold-roll-Tree ℕ size_step (Bind name v d b)
+
+depth-bind : (name v : List ℕ) (d b : Tree) → depth (tree.Bind name v d b) ≡ max (depth d) (depth b) + 1
+depth-bind name v d b = ap depth (sym (tree.rolls-Bind name v d b)) ∙ fold-roll-Tree ℕ depth_step (Bind name v d b)
 
 size-made : (head : Word) (name : List ℕ) (ts : List Tree) → size (made head name ts) ≡ sum (map size ts) + 1
 size-made word.Meta name ts = size-meta name ts
@@ -54,6 +62,12 @@ mutual
   pub size-tree : (w : Writing) → size (tree_of w) ≡ nodes w
   size-tree (leaf head name) = size-made head name [] ∙ omega arith
   size-tree (apply head name ws) = size-made head name (trees_of ws) ∙ ap (λ n. n + 1) (size-trees ws)
+  size-tree (bind head name v d b) = size-bind name v (tree_of d) (tree_of b) ∙ (let i = size-tree d in let j = size-tree b in omega arith)
+  size-tree (paren w) = size-tree w
+  size-tree (neg w) = size-app (constant_of Not) (tree_of w ∷ []) ∙ (let i = size-tree w in let s = sum-more (size (tree_of w)) [] in omega arith)
+  size-tree (bin item o a b) =
+      size-app (constant_of o.mark) (tree_of a ∷ tree_of b ∷ [])
+      ∙ (let i = size-tree a in let j = size-tree b in let s = sum-more (size (tree_of a)) (size (tree_of b) ∷ []) in let t = sum-more (size (tree_of b)) [] in omega arith)
 
   pub size-trees : (ws : Writings) → sum (map size (trees_of ws)) ≡ nodes_of ws
   size-trees (one w) = sum-more (size (tree_of w)) [] ∙ (let i = size-tree w in omega arith)
@@ -63,6 +77,12 @@ mutual
   pub depth-tree : (w : Writing) → depth (tree_of w) ≡ deep w
   depth-tree (leaf head name) = depth-made head name [] ∙ refl
   depth-tree (apply head name ws) = depth-made head name (trees_of ws) ∙ ap (λ n. n + 1) (depth-trees ws)
+  depth-tree (bind head name v d b) = depth-bind name v (tree_of d) (tree_of b) ∙ (let i = depth-tree d in let j = depth-tree b in grind arith)
+  depth-tree (paren w) = depth-tree w
+  depth-tree (neg w) = depth-app (constant_of Not) (tree_of w ∷ []) ∙ (let i = depth-tree w in let s = deepest-more (depth (tree_of w)) [] in grind arith)
+  depth-tree (bin item o a b) =
+      depth-app (constant_of o.mark) (tree_of a ∷ tree_of b ∷ [])
+      ∙ (let i = depth-tree a in let j = depth-tree b in let s = deepest-more (depth (tree_of a)) (depth (tree_of b) ∷ []) in let t = deepest-more (depth (tree_of b)) [] in grind arith)
 
   pub depth-trees : (ws : Writings) → deepest (map depth (trees_of ws)) ≡ deep_of ws
   depth-trees (one w) = deepest-more (depth (tree_of w)) [] ∙ (let i = depth-tree w in grind arith)

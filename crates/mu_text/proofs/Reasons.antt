@@ -8,49 +8,75 @@ use Rattle.mu_text.specs.Lexemes.{Lexeme, word, mark}
 use Rattle.mu_text.specs.Marks.{is_mark}
 use Rattle.mu_text.specs.Parts.{Out, Nothing, given_back, Then, chain, Made, mapped, Or}
 use Rattle.mu_text.specs.SimpleParts.{name_of, meta_of, AnyName, MetaName, GivenWord, GivenMark, is_word, read_meta, read_mark, read_word, read_name}
+use Rattle.mu_text.specs.Groups.{Parameters, read_parameters}
+use Rattle.mu_text.specs.Writings.{Writing}
 use Rattle.mu_text.specs.Trees.{OneTree, read_tree}
 use Rattle.mu_text.specs.References.{SomeReferences, read_references}
 use Rattle.mu_text.specs.Reasons.{AbstractionWriting, IsAbstraction, SomeAbstractions, abstracting, read_abstraction, read_abstractions, Reason, by_rule, Led, led, read_from, read_with, IsReason, read_reason}
 use Rattle.mu_text.proofs.Choice.{Passes, Fails, Exact-either}
-use Rattle.mu_text.proofs.Complete.{Follows, free_mark}
+use Rattle.mu_text.proofs.Complete.{Follows, plain_follows}
 use Rattle.mu_text.proofs.Exact.{Exact, Exact-same, Exact-chain, Exact-mapped, Exact-pure, Exact-before}
+use Rattle.mu_text.proofs.Groups.{NoBracket, Exact-parameters}
 use Rattle.mu_text.proofs.Lists.{Exact-separated}
 use Rattle.mu_text.proofs.Simple.{Any, NoComma, Exact-meta, Exact-mark, Exact-word, Exact-name, is_own_word}
 use Rattle.mu_text.proofs.Trees.{NoSemicolon, Exact-tree}
 use Rattle.mu_text.proofs.References.{Exact-references}
 
-abbrev Body : List ℕ → List Lexeme → AbstractionWriting → Type 0
-Body meta = Then (GivenMark Becomes) (λ _. Made (abstracting meta) OneTree)
+abbrev Body : List ℕ → List (List ℕ) → List Lexeme → AbstractionWriting → Type 0
+Body meta params = Then (GivenMark Becomes) (λ _. Made (abstracting meta params) OneTree)
 
-exact_body : (meta : List ℕ) → Exact (chain (read_mark Becomes) (λ _. mapped (abstracting meta) read_tree)) (Body meta) Follows
-exact_body meta =
-    Exact-chain (read_mark Becomes) (λ _. mapped (abstracting meta) read_tree) (GivenMark Becomes) (λ _. Made (abstracting meta) OneTree) Any Follows (Exact-mark Becomes)
-    (λ u. Exact-mapped (abstracting meta) read_tree OneTree Follows Exact-tree) (λ u b y rest g s. tt)
+abbrev Params : List ℕ → List Lexeme → AbstractionWriting → Type 0
+Params meta = Then Parameters (Body meta)
+
+exact_body : (meta : List ℕ) (params : List (List ℕ)) → Exact (chain (read_mark Becomes) (λ _. mapped (abstracting meta params) read_tree)) (Body meta params) Follows
+exact_body meta params =
+    Exact-chain (read_mark Becomes) (λ _. mapped (abstracting meta params) read_tree) (GivenMark Becomes) (λ _. Made (abstracting meta params) OneTree) Any Follows (Exact-mark Becomes)
+    (λ u. Exact-mapped (abstracting meta params) read_tree OneTree Follows Exact-tree) (λ u b y rest g s. tt)
+
+body_is : (meta : List ℕ) (params : List (List ℕ)) (ts : List Lexeme) (x : AbstractionWriting) → Body meta params ts x
+    → (b : List Lexeme) × (w : Writing) × (ts ≡ mark Becomes ∷ b) × OneTree b w × (x ≡ abstracting meta params w)
+body_is meta params ts x g = (g.2, g.5.0, g.3 ∙ ap (λ l. l ++ g.2) g.4, g.5.1, g.5.2)
+
+link_body : (meta : List ℕ) (params : List (List ℕ)) (ts : List Lexeme) (x : AbstractionWriting) (rest : List Lexeme) → Body meta params ts x → Follows rest → NoBracket (ts ++ rest)
+link_body meta params ts x rest g s = subst (λ (l : List Lexeme). NoBracket (l ++ rest)) (sym (body_is meta params ts x g).2) refl
+
+exact_params : (meta : List ℕ) → Exact (chain read_parameters (λ params. chain (read_mark Becomes) (λ _. mapped (abstracting meta params) read_tree))) (Params meta) Follows
+exact_params meta =
+    Exact-chain read_parameters (λ params. chain (read_mark Becomes) (λ _. mapped (abstracting meta params) read_tree)) Parameters (Body meta) NoBracket Follows Exact-parameters (exact_body meta) (link_body meta)
 
 meta_is : (T : Lexeme) (text : List ℕ) → meta_of T ≡ Some text → T ≡ word Meta text
 meta_is (word Meta other) text e = cc
 meta_is (word _ other) text e = cc
 meta_is (mark m) text e = cc
 
-to_abstraction : (ts : List Lexeme) (x : AbstractionWriting) → Then MetaName Body ts x → IsAbstraction ts x
+to_abstraction : (ts : List Lexeme) (x : AbstractionWriting) → Then MetaName Params ts x → IsAbstraction ts x
 to_abstraction ts x g =
     let k = g.5 in
+    let b = body_is g.0 k.0 k.2 x k.5 in
     let front : g.1 ≡ word Meta g.0 ∷ [] = g.4.1 ∙ ap (λ T. T ∷ []) (meta_is g.4.0 g.0 g.4.2) in
-    let back : g.2 ≡ mark Becomes ∷ k.2 = k.3 ∙ ap (λ l. l ++ k.2) k.4 in
-    subst (λ (y : AbstractionWriting). IsAbstraction ts y) (sym k.5.2) (k.2, g.3 ∙ (ap (λ l. l ++ g.2) front ∙ ap (λ l. word Meta g.0 ∷ l) back), k.5.1)
+    let back : g.2 ≡ k.1 ++ (mark Becomes ∷ b.0) = k.3 ∙ ap (λ l. k.1 ++ l) b.2 in
+    subst (λ (y : AbstractionWriting). IsAbstraction ts y) (sym b.4) (k.1, b.0, g.3 ∙ (ap (λ l. l ++ g.2) front ∙ ap (λ l. word Meta g.0 ∷ l) back), k.4, b.3)
 
-from_abstraction : (ts : List Lexeme) (x : AbstractionWriting) → IsAbstraction ts x → Then MetaName Body ts x
-from_abstraction ts x g = (x.meta, word Meta x.meta ∷ [], mark Becomes ∷ g.0, g.1, (word Meta x.meta, refl, refl), (tt, mark Becomes ∷ [], g.0, refl, refl, (x.body, g.2, refl)))
+from_abstraction : (ts : List Lexeme) (x : AbstractionWriting) → IsAbstraction ts x → Then MetaName Params ts x
+from_abstraction ts x g = (
+  x.meta,
+  word Meta x.meta ∷ [],
+  g.0 ++ (mark Becomes ∷ g.1),
+  g.2,
+  (word Meta x.meta, refl, refl),
+  (x.params, g.0, mark Becomes ∷ g.1, refl, g.3, (tt, mark Becomes ∷ [], g.1, refl, refl, (x.body, g.4, refl))),
+)
 
 pub Exact-abstraction : Exact read_abstraction IsAbstraction Follows
 unfolding read_abstraction
 Exact-abstraction =
-    Exact-same read_abstraction (Then MetaName Body) IsAbstraction Follows to_abstraction from_abstraction
-    (Exact-chain read_meta (λ meta. chain (read_mark Becomes) (λ _. mapped (abstracting meta) read_tree)) MetaName Body Any Follows Exact-meta exact_body (λ meta b y rest g s. tt))
+    Exact-same read_abstraction (Then MetaName Params) IsAbstraction Follows to_abstraction from_abstraction
+    (Exact-chain read_meta (λ meta. chain read_parameters (λ params. chain (read_mark Becomes) (λ _. mapped (abstracting meta params) read_tree))) MetaName Params Any Follows Exact-meta exact_params
+    (λ meta b y rest g s. tt))
 
 pub Exact-abstractions : Exact read_abstractions SomeAbstractions NoSemicolon
 unfolding read_abstractions
-Exact-abstractions = Exact-separated Semicolon read_abstraction IsAbstraction Follows Exact-abstraction (λ rest. free_mark Semicolon refl)
+Exact-abstractions = Exact-separated Semicolon read_abstraction IsAbstraction Follows Exact-abstraction (λ rest. plain_follows Semicolon 0 refl refl)
 
 module _ {A : Type 0} (text : List ℕ) (p : List Lexeme → Out (List A)) (G : List Lexeme → List A → Type 0) (S : List Lexeme → Type 0) (P : Exact p G S) (some : (ts : List Lexeme) → G ts [] → ⊥) where
   -- the word does not follow, nor what goes on with the items

@@ -1,5 +1,5 @@
 -- The parts of one token are read exactly, and so are lists of them.
-use Rattle.std.proofs.Common.{◌≡◌, ℕ, Bool, true, false, List, [], ◌∷◌, Option, Some, None, refl, ap, ◌∙◌}
+use Rattle.std.proofs.Common.{◌≡◌, ℕ, Bool, true, false, List, [], ◌∷◌, Option, Some, None, ◌⊎◌, inl, inr, refl, ap, sym, ◌∙◌, subst}
 use Rattle.std.specs.Prelude.{codes}
 use Rattle.std.specs.Bool.{nat_eq}
 use Rattle.std.specs.Cmp.Lexicographic.{pointwise}
@@ -12,7 +12,7 @@ use Rattle.mu_text.specs.declared.symbol.Mark.TheVariants.{Comma}
 use Rattle.mu_text.specs.Lexemes.{Lexeme, word, mark}
 use Rattle.mu_text.specs.Marks.{is_mark}
 use Rattle.mu_text.specs.Parts.{token, OneToken}
-use Rattle.mu_text.specs.SimpleParts.{plain_name_of, name_of, meta_of, place_of, where_true, has_bytes, is_word, word_of, mark_of, kind_of, PlainName, AnyName, MetaName, PlaceNumber, GivenWord, GivenMark, OneKind, SomeKinds, SomeNames, read_plain_name, read_name, read_meta, read_place, read_word, read_mark, read_kind, read_kinds, read_names}
+use Rattle.mu_text.specs.SimpleParts.{plain_name_of, name_of, var_of, meta_of, place_of, where_true, where_either, has_bytes, is_word, word_of, mark_of, kind_of, PlainName, AnyName, VarName, MetaName, PlaceNumber, GivenWord, GivenMark, OneKind, SomeKinds, SomeVars, read_plain_name, read_name, read_var, read_meta, read_place, read_word, read_mark, read_kind, read_kinds, read_vars}
 use Rattle.mu_text.proofs.Marks.{own_mark, only_mark}
 use Rattle.mu_text.proofs.Choice.{Fails}
 use Rattle.mu_text.proofs.Exact.{Exact, Exact-token, Exact-same}
@@ -29,6 +29,10 @@ Exact-plain_name = Exact-token plain_name_of (word Plain (97 ∷ [])) (97 ∷ []
 pub Exact-name : Exact read_name AnyName Any
 unfolding read_name
 Exact-name = Exact-token name_of (word Plain (97 ∷ [])) (97 ∷ []) refl Any
+
+pub Exact-var : Exact read_var VarName Any
+unfolding read_var
+Exact-var = Exact-token var_of (word Plain (97 ∷ [])) (97 ∷ []) refl Any
 
 pub Exact-meta : Exact read_meta MetaName Any
 unfolding read_meta
@@ -72,19 +76,27 @@ Exact-mark sign =
     (λ ts x g. (mark sign, g, ap (λ b. where_true b tt) (own_mark sign)))
     (Exact-token (mark_of sign) (mark sign) tt (ap (λ b. where_true b tt) (own_mark sign)) Any)
 
+-- the first of two tests that holds, and what is then given
+passed_either : {A : Type 0} (first : Bool) (x : A) (second : Bool) (y z : A) → where_either first x second y ≡ Some z → ((first ≡ true) × (z ≡ x)) ⊎ ((second ≡ true) × (z ≡ y))
+passed_either true x second y z e = inl (refl, cc)
+passed_either false x second y z e = inr (passed second y z e)
+
 to_kind : (ts : List Lexeme) (k : Kind) → OneToken kind_of ts k → OneKind ts k
-to_kind ts kind.E g = (g.0, g.1, from_bytes (codes "e") (name_of g.0) (passed (is_word (codes "e") g.0) kind.E kind.E g.2).0)
-to_kind ts kind.T g = let e : kind.T ≡ kind.E = (passed (is_word (codes "e") g.0) kind.E kind.T g.2).1 in cc
+to_kind ts k g = at (passed_either (is_word (codes "e") g.0) kind.E (is_word (codes "t") g.0) kind.T k g.2)
+  where
+    at : ((is_word (codes "e") g.0 ≡ true) × (k ≡ kind.E)) ⊎ ((is_word (codes "t") g.0 ≡ true) × (k ≡ kind.T)) → OneKind ts k
+    at (inl h) = subst (OneKind ts) (sym h.1) (g.0, g.1, from_bytes (codes "e") (name_of g.0) h.0)
+    at (inr h) = subst (OneKind ts) (sym h.1) (g.0, g.1, from_bytes (codes "t") (name_of g.0) h.0)
 
 from_kind : (ts : List Lexeme) (k : Kind) → OneKind ts k → OneToken kind_of ts k
-from_kind ts kind.E g = (g.0, g.1, ap (λ b. where_true b kind.E) (is_own_word (codes "e") g.0 g.2))
-from_kind ts kind.T g = absurd g
+from_kind ts kind.E g = (g.0, g.1, ap (λ o. where_either (has_bytes (codes "e") o) kind.E (has_bytes (codes "t") o) kind.T) g.2)
+from_kind ts kind.T g = (g.0, g.1, ap (λ o. where_either (has_bytes (codes "e") o) kind.E (has_bytes (codes "t") o) kind.T) g.2)
 
 pub Exact-kind : Exact read_kind OneKind Any
 unfolding read_kind
 Exact-kind =
     Exact-same (token kind_of) (OneToken kind_of) OneKind Any to_kind from_kind
-    (Exact-token kind_of (word Plain (codes "e")) kind.E (ap (λ b. where_true b kind.E) (same_bytes (codes "e"))) Any)
+    (Exact-token kind_of (word Plain (codes "e")) kind.E refl Any)
 
 -- no comma follows a list between commas
 abbrev pub NoComma : List Lexeme → Type 0
@@ -94,6 +106,6 @@ pub Exact-kinds : Exact read_kinds SomeKinds NoComma
 unfolding read_kinds
 Exact-kinds = Exact-separated Comma read_kind OneKind Any Exact-kind (λ rest. tt)
 
-pub Exact-names : Exact read_names SomeNames NoComma
-unfolding read_names
-Exact-names = Exact-separated Comma read_plain_name PlainName Any Exact-plain_name (λ rest. tt)
+pub Exact-vars : Exact read_vars SomeVars NoComma
+unfolding read_vars
+Exact-vars = Exact-separated Comma read_var VarName Any Exact-var (λ rest. tt)

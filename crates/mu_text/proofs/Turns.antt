@@ -15,7 +15,7 @@ again : {A : Type 0} (front : List A) (x : A) (out : Out (List A)) → extended 
 again front x (found xs rest) = ap (λ l. found l rest) (sym (append_assoc front (x ∷ []) xs))
 again front x (stopped rest) = refl
 
-each_more : {A B : Type 0} (S : A → B → Type 0) (xs : List A) (ys : List B) (x : A) (y : B) → StandsEach S xs ys → S x y → StandsEach S (xs ++ (x ∷ [])) (ys ++ (y ∷ []))
+pub each_more : {A B : Type 0} (S : A → B → Type 0) (xs : List A) (ys : List B) (x : A) (y : B) → StandsEach S xs ys → S x y → StandsEach S (xs ++ (x ∷ [])) (ys ++ (y ∷ []))
 each_more S [] [] x y h s = (s, tt)
 each_more S [] (z ∷ ys) x y h s = absurd h
 each_more S (w ∷ xs) [] x y h s = absurd h
@@ -135,3 +135,7 @@ module _ {A B : Type 0} {S : A → B → Type 0} {sign : Mark} {item : List Lexe
 -- where each value is the spelled one, so is the list
 pub finish_same : {A : Type 0} {out : Out (List A)} {ys : List A} {rest : List Lexeme} → Read (StandsEach (Same {A = A})) out ys rest → Read (Same {A = List A}) out ys rest
 finish_same {ys = ys} read = record { value = read.value; is = read.is; stands = each_same read.value ys read.stands }
+
+-- the same list in other memory
+pub refitted : {A B : Type 0} {S : A → B → Type 0} {out : Out A} {y z : B} {rest : List Lexeme} → Read S out y rest → z ≡ y → Read S out z rest
+refitted {S = S} {out = out} {rest = rest} read e = subst (λ w. Read S out w rest) (sym e) read

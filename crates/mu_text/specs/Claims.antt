@@ -1,18 +1,16 @@
 -- Claims: how they are spelled, and what reads them.
 use Rattle.std.specs.Prelude.{◌≡◌, Bool, ◌||◌, List, [], ◌∷◌, ◌++◌, map}
-use Rattle.std.specs.List.{AllByRecursion}
 use Rattle.mu_tree.specs.declared.claim.Hyp.{Hyp}
 use Rattle.mu_tree.specs.declared.claim.Hyp.TheVariants as hyp
 use Rattle.mu_tree.specs.declared.claim.Claim.{Claim}
-use Rattle.mu_text.specs.declared.excess.Measured.{Measured}
 use Rattle.mu_text.specs.declared.symbol.Mark.TheVariants.{Semicolon, Turnstile}
 use Rattle.mu_text.specs.Lexemes.{Lexeme, mark}
 use Rattle.mu_text.specs.Marks.{is_mark}
-use Rattle.mu_text.specs.Parts.{Out, chain, either, given_back, mapped, Separated, read_more}
+use Rattle.mu_text.specs.Parts.{Out, chain, either, given_back, mapped, Separated, StandsEach, read_more}
 use Rattle.mu_text.specs.SimpleParts.{read_mark}
-use Rattle.mu_text.specs.Writings.{Writing, tree_of, Short}
+use Rattle.mu_text.specs.Writings.{Writing, tree_of}
 use Rattle.mu_text.specs.Trees.{OneTree, read_tree}
-use Rattle.mu_text.specs.Excesses.{in_each, IsMeasured, MeasuredAll}
+use Rattle.mu_text.specs.Excesses.{in_each, StandsTree}
 
 -- a hypothesis as it is written: a tree
 pub data Hypothesis : Type 0 where
@@ -40,43 +38,26 @@ IsClaim ts x = Claims ts x.hyps x.conclusion
 abbrev pub hyp_of : Hypothesis → Hyp
 hyp_of (plain w) = hyp.Plain (tree_of w)
 
--- the trees in a hypothesis
-abbrev pub trees_in_hypothesis : Hypothesis → List Writing
-trees_in_hypothesis (plain w) = w ∷ []
-
--- its names are within the limit
-abbrev pub WithinHypothesis : Hypothesis → Type 0
-WithinHypothesis (plain w) = Short w
-
 -- the claim that is meant
 abbrev pub claim_of : Sentence → Claim
 claim_of x = record { hyps = map hyp_of x.hyps; conclusion = tree_of x.conclusion }
+
+-- the trees in a hypothesis
+abbrev pub trees_in_hypothesis : Hypothesis → List Writing
+trees_in_hypothesis (plain w) = w ∷ []
 
 -- the trees in a claim
 abbrev pub trees_in_claim : Sentence → List Writing
 trees_in_claim x = in_each trees_in_hypothesis x.hyps ++ (x.conclusion ∷ [])
 
--- its names are within the limit
-abbrev pub WithinClaim : Sentence → Type 0
-WithinClaim x = AllByRecursion WithinHypothesis x.hyps × Short x.conclusion
+-- a hypothesis of the same sort, whose tree stands for the spelled one
+abbrev pub StandsHypothesis : Hypothesis → Hyp → Type 0
+StandsHypothesis (plain w) (hyp.Plain tree) = StandsTree w tree
+StandsHypothesis _ _ = ⊥
 
--- a hypothesis of the code that is of the sort of the spelled one
-abbrev pub SameSort : Hypothesis → Hyp → Type 0
-SameSort (plain w) (hyp.Plain tree) = Unit {0}
-SameSort _ _ = ⊥
-
--- a hypothesis that was read, measured
-pub record StandsHypothesis (h : Hypothesis) (m : Measured Hyp) : Type 0 where
-  pub measured : IsMeasured trees_in_hypothesis WithinHypothesis hyp_of h m
-  pub same_sort : SameSort h m.value
-
--- hypotheses that were read, measured together
-abbrev pub StandsHypotheses : List Hypothesis → Measured (List Hyp) → Type 0
-StandsHypotheses hs m = MeasuredAll trees_in_hypothesis WithinHypothesis hyp_of hs m
-
--- a claim that was read, measured
-abbrev pub StandsClaim : Sentence → Measured Claim → Type 0
-StandsClaim x m = IsMeasured trees_in_claim WithinClaim claim_of x m
+-- a claim whose trees stand for the spelled ones
+abbrev pub StandsClaim : Sentence → Claim → Type 0
+StandsClaim x claim = StandsEach StandsHypothesis x.hyps claim.hyps × StandsTree x.conclusion claim.conclusion
 
 -- whether a claim goes on with the token behind its first tree
 abbrev pub goes_on : Lexeme → Bool

@@ -1,12 +1,12 @@
 -- Parts made of others: between two marks, or left out.
-use Rattle.std.specs.Prelude.{◌≡◌, Bool, List, [], ◌∷◌, ◌++◌, Option, Some, None}
+use Rattle.std.specs.Prelude.{◌≡◌, ℕ, Bool, List, [], ◌∷◌, ◌++◌, Option, Some, None}
 use Rattle.mu_tree.specs.declared.claim.Kind.{Kind}
 use Rattle.mu_text.specs.declared.symbol.Mark.{Mark}
-use Rattle.mu_text.specs.declared.symbol.Mark.TheVariants.{Open, Close}
+use Rattle.mu_text.specs.declared.symbol.Mark.TheVariants.{Open, Close, OpenBracket, CloseBracket}
 use Rattle.mu_text.specs.Lexemes.{Lexeme, mark}
 use Rattle.mu_text.specs.Marks.{is_mark}
 use Rattle.mu_text.specs.Parts.{Out, found, ◌>>=◌, either, given_back}
-use Rattle.mu_text.specs.SimpleParts.{SomeKinds, read_mark, read_kinds}
+use Rattle.mu_text.specs.SimpleParts.{SomeKinds, SomeVars, read_mark, read_kinds, read_vars}
 
 -- a spelling between the two marks
 abbrev pub Enclosed : {A : Type 0} → Mark → Mark → (List Lexeme → A → Type 0) → List Lexeme → A → Type 0
@@ -31,11 +31,27 @@ StandsOptional S (Some x) (Some y) = S x y
 StandsOptional S None None = Unit {0}
 StandsOptional S _ _ = ⊥
 
+-- items between the two marks; where there are none, no token
+abbrev pub Bracketed : {A : Type 0} → Mark → Mark → (List Lexeme → List A → Type 0) → List Lexeme → List A → Type 0
+Bracketed left right G ts [] = ts ≡ []
+Bracketed left right G ts (x ∷ xs) = Enclosed left right G ts (x ∷ xs)
+
+-- reads items between the two marks, where the first of them stands
+abbrev pub bracketed : {A : Type 0} → Mark → Mark → (List Lexeme → Out (List A)) → List Lexeme → Out (List A)
+bracketed left right p ts = either (is_mark left) (enclosed left right p) (given_back []) ts
+
+-- the parameters of an abstraction: variables between commas, in brackets; where there are none, no token
+abbrev pub Parameters : List Lexeme → List (List ℕ) → Type 0
+Parameters ts names = Bracketed OpenBracket CloseBracket SomeVars ts names
+
+-- reads the parameters of an abstraction
+unfoldable pub read_parameters : List Lexeme → Out (List (List ℕ))
+read_parameters ts = bracketed OpenBracket CloseBracket read_vars ts
+
 -- the kinds of a constant's arguments: between commas, in parentheses; where there are none, no token
 abbrev pub ArgumentKinds : List Lexeme → List Kind → Type 0
-ArgumentKinds ts [] = ts ≡ []
-ArgumentKinds ts (kind ∷ kinds) = Enclosed Open Close SomeKinds ts (kind ∷ kinds)
+ArgumentKinds ts kinds = Bracketed Open Close SomeKinds ts kinds
 
 -- reads the kinds of a constant's arguments
 unfoldable pub read_argument_kinds : List Lexeme → Out (List Kind)
-read_argument_kinds ts = either (is_mark Open) (enclosed Open Close read_kinds) (given_back []) ts
+read_argument_kinds ts = bracketed Open Close read_kinds ts

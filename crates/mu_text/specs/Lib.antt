@@ -1,10 +1,12 @@
 pub mod Claims
+pub mod Declarations
 pub mod Excesses
 pub mod Groups
 pub mod Lexemes
 pub mod Limits
 pub mod Machine
 pub mod Marks
+pub mod Ops
 pub mod Parts
 pub mod Reading
 pub mod Reads
@@ -13,6 +15,7 @@ pub mod References
 pub mod Rows
 pub mod SimpleParts
 pub mod Spacing
+pub mod Texts
 pub mod Tokens
 pub mod Trees
 pub mod Writings

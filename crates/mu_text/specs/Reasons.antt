@@ -1,30 +1,29 @@
 -- What a line of a proof holds by: how it is spelled, and what reads it.
 use Rattle.std.specs.Prelude.{◌≡◌, ℕ, List, [], ◌∷◌, ◌++◌, None, codes, map}
-use Rattle.std.specs.List.{AllByRecursion}
-use Rattle.mu_tree.specs.Names.{IsName}
 use Rattle.mu_tree.specs.declared.why.Ref.{Ref}
 use Rattle.mu_tree.specs.declared.why.Given.{Given}
 use Rattle.mu_tree.specs.declared.why.Why.{Why}
 use Rattle.mu_tree.specs.declared.why.Why.TheVariants as why
-use Rattle.mu_text.specs.declared.excess.Measured.{Measured}
 use Rattle.mu_text.specs.declared.symbol.Word.TheVariants.{Meta}
 use Rattle.mu_text.specs.declared.symbol.Mark.TheVariants.{Semicolon, Becomes}
 use Rattle.mu_text.specs.Lexemes.{Lexeme, word, mark}
-use Rattle.mu_text.specs.Parts.{Out, chain, either, given_back, mapped, Separated, separated}
-use Rattle.mu_text.specs.SimpleParts.{AnyName, GivenWord, is_word, read_meta, read_mark, read_word, read_name}
-use Rattle.mu_text.specs.Writings.{Writing, tree_of, Short}
+use Rattle.mu_text.specs.Parts.{Out, chain, either, given_back, mapped, Separated, StandsEach, separated}
+use Rattle.mu_text.specs.SimpleParts.{AnyName, GivenWord, StandsName, is_word, read_meta, read_mark, read_word, read_name}
+use Rattle.mu_text.specs.Writings.{Writing, tree_of}
 use Rattle.mu_text.specs.Trees.{OneTree, read_tree}
-use Rattle.mu_text.specs.References.{SomeReferences, WithinReference, read_references}
-use Rattle.mu_text.specs.Excesses.{in_each, IsMeasured, MeasuredAll}
+use Rattle.mu_text.specs.References.{SomeReferences, StandsReference, read_references}
+use Rattle.mu_text.specs.Groups.{Parameters, read_parameters}
+use Rattle.mu_text.specs.Excesses.{in_each, StandsTree}
 
 -- what stands for a metavariable, as it is written
 pub record AbstractionWriting : Type 0 where
   pub meta : List ℕ
+  pub params : List (List ℕ)
   pub body : Writing
 
--- a metavariable, `:=` and a tree
+-- a metavariable, its parameters in brackets where there are any, `:=` and a tree
 abbrev pub IsAbstraction : List Lexeme → AbstractionWriting → Type 0
-IsAbstraction ts x = (b : List Lexeme) × (ts ≡ word Meta x.meta ∷ mark Becomes ∷ b) × OneTree b x.body
+IsAbstraction ts x = (a b : List Lexeme) × (ts ≡ word Meta x.meta ∷ (a ++ (mark Becomes ∷ b))) × Parameters a x.params × OneTree b x.body
 
 -- abstractions with semicolons between them, at least one
 abbrev pub SomeAbstractions : List Lexeme → List AbstractionWriting → Type 0
@@ -32,23 +31,15 @@ SomeAbstractions ts xs = Separated Semicolon IsAbstraction ts xs
 
 -- the abstraction that is meant
 abbrev pub given_of : AbstractionWriting → Given
-given_of x = record { meta = x.meta; params = []; body = tree_of x.body }
+given_of x = record { meta = x.meta; params = x.params; body = tree_of x.body }
 
 -- the trees in an abstraction
 abbrev pub trees_in_abstraction : AbstractionWriting → List Writing
 trees_in_abstraction x = x.body ∷ []
 
--- its names are within the limit
-abbrev pub WithinAbstraction : AbstractionWriting → Type 0
-WithinAbstraction x = IsName x.meta × Short x.body
-
--- an abstraction that was read, measured
-abbrev pub StandsAbstraction : AbstractionWriting → Measured Given → Type 0
-StandsAbstraction x m = IsMeasured trees_in_abstraction WithinAbstraction given_of x m
-
--- abstractions that were read, measured together
-abbrev pub StandsAbstractions : List AbstractionWriting → Measured (List Given) → Type 0
-StandsAbstractions xs m = MeasuredAll trees_in_abstraction WithinAbstraction given_of xs m
+-- an abstraction whose names and tree stand for the spelled ones
+abbrev pub StandsAbstraction : AbstractionWriting → Given → Type 0
+StandsAbstraction x given = StandsName x.meta given.meta × StandsEach StandsName x.params given.params × StandsTree x.body given.body
 
 -- what a line holds by, as it is written: a rule with references and abstractions
 pub data Reason : Type 0 where
@@ -72,21 +63,18 @@ why_of (by_rule name refs inst) = why.Rule name None refs (map given_of inst)
 abbrev pub trees_in_reason : Reason → List Writing
 trees_in_reason (by_rule name refs inst) = in_each trees_in_abstraction inst
 
--- its names are within the limit
-abbrev pub WithinReason : Reason → Type 0
-WithinReason (by_rule name refs inst) = IsName name × AllByRecursion WithinReference refs × AllByRecursion WithinAbstraction inst
-
--- what a line holds by, read and measured
-abbrev pub StandsReason : Reason → Measured Why → Type 0
-StandsReason x m = IsMeasured trees_in_reason WithinReason why_of x m
+-- a reason of the same sort, whose names, references and abstractions stand for the spelled ones
+abbrev pub StandsReason : Reason → Why → Type 0
+StandsReason (by_rule name refs inst) (why.Rule rule None kept given) = StandsName name rule × StandsEach StandsReference refs kept × StandsEach StandsAbstraction inst given
+StandsReason _ _ = ⊥
 
 -- an abstraction of its parts
-abbrev pub abstracting : List ℕ → Writing → AbstractionWriting
-abstracting meta body = record { meta = meta; body = body }
+abbrev pub abstracting : List ℕ → List (List ℕ) → Writing → AbstractionWriting
+abstracting meta params body = record { meta = meta; params = params; body = body }
 
 -- reads an abstraction
 unfoldable pub read_abstraction : List Lexeme → Out AbstractionWriting
-read_abstraction ts = chain read_meta (λ meta. chain (read_mark Becomes) (λ _. mapped (abstracting meta) read_tree)) ts
+read_abstraction ts = chain read_meta (λ meta. chain read_parameters (λ params. chain (read_mark Becomes) (λ _. mapped (abstracting meta params) read_tree))) ts
 
 -- reads abstractions with semicolons between them
 unfoldable pub read_abstractions : List Lexeme → Out (List AbstractionWriting)

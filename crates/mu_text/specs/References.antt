@@ -1,6 +1,5 @@
 -- References to what a line of a proof holds by: how they are spelled, and what reads them.
 use Rattle.std.specs.Prelude.{◌≡◌, Bool, true, false, List}
-use Rattle.mu_tree.specs.Names.{IsName}
 use Rattle.mu_tree.specs.declared.why.Ref.{Ref}
 use Rattle.mu_tree.specs.declared.why.Ref.TheVariants as ref
 use Rattle.mu_text.specs.declared.symbol.Word.TheVariants.{Place}
@@ -23,12 +22,6 @@ IsReference ts (ref.Hypothesis n) = PlaceNumber ts n
 -- references between commas, at least one
 abbrev pub SomeReferences : List Lexeme → List Ref → Type 0
 SomeReferences ts refs = Separated Comma IsReference ts refs
-
--- its label is within the limit of names
-abbrev pub WithinReference : Ref → Type 0
-WithinReference (ref.Item label) = IsName label
-WithinReference (ref.Assumption label n) = ⊥
-WithinReference (ref.Hypothesis n) = Unit {0}
 
 -- a reference of the same sort, with the same number, and with a label that stands for the spelled one
 abbrev pub StandsReference : Ref → Ref → Type 0

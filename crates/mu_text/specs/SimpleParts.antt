@@ -28,6 +28,11 @@ abbrev pub name_of : Lexeme → Option (List ℕ)
 name_of (word Dotted text) = Some text
 name_of T = plain_name_of T
 
+-- the bytes of a variable: a name of one segment that is no operator's word and not `true`
+abbrev pub var_of : Lexeme → Option (List ℕ)
+var_of (word Plain text) = Some text
+var_of _ = None
+
 -- the segment of a metavariable
 abbrev pub meta_of : Lexeme → Option (List ℕ)
 meta_of (word Meta text) = Some text
@@ -72,9 +77,13 @@ word_of text T = where_true (is_word text T) tt
 abbrev pub mark_of : Mark → Lexeme → Option (Unit {0})
 mark_of sign T = where_true (is_mark sign T) tt
 
--- a kind: `e` is an element
+-- the value of the first test that holds
+abbrev pub where_either : {A : Type 0} → Bool → A → Bool → A → Option A
+where_either first x second y = if first then Some x else where_true second y
+
+-- a kind: `e` is an element, and `t` a type
 abbrev pub kind_of : Lexeme → Option Kind
-kind_of T = where_true (is_word (codes "e") T) kind.E
+kind_of T = where_either (is_word (codes "e") T) kind.E (is_word (codes "t") T) kind.T
 
 -- a name of one segment, as a label is, with its bytes
 abbrev pub PlainName : List Lexeme → List ℕ → Type 0
@@ -83,6 +92,10 @@ PlainName ts text = OneToken plain_name_of ts text
 -- a name, with its bytes
 abbrev pub AnyName : List Lexeme → List ℕ → Type 0
 AnyName ts text = OneToken name_of ts text
+
+-- a variable, with its bytes
+abbrev pub VarName : List Lexeme → List ℕ → Type 0
+VarName ts text = OneToken var_of ts text
 
 -- a metavariable, with its segment
 abbrev pub MetaName : List Lexeme → List ℕ → Type 0
@@ -103,15 +116,15 @@ GivenMark sign ts x = ts ≡ mark sign ∷ []
 -- a kind
 abbrev pub OneKind : List Lexeme → Kind → Type 0
 OneKind ts kind.E = GivenWord (codes "e") ts tt
-OneKind ts kind.T = ⊥
+OneKind ts kind.T = GivenWord (codes "t") ts tt
 
 -- kinds between commas, at least one
 abbrev pub SomeKinds : List Lexeme → List Kind → Type 0
 SomeKinds ts kinds = Separated Comma OneKind ts kinds
 
--- names of one segment between commas, at least one
-abbrev pub SomeNames : List Lexeme → List (List ℕ) → Type 0
-SomeNames ts names = Separated Comma PlainName ts names
+-- variables between commas, at least one
+abbrev pub SomeVars : List Lexeme → List (List ℕ) → Type 0
+SomeVars ts names = Separated Comma VarName ts names
 
 -- a name is kept as it is spelled; where it is past its limit some other name stands for it
 abbrev pub StandsName : List ℕ → List ℕ → Type 0
@@ -124,6 +137,10 @@ read_plain_name ts = token plain_name_of ts
 -- reads a name
 unfoldable pub read_name : List Lexeme → Out (List ℕ)
 read_name ts = token name_of ts
+
+-- reads a variable
+unfoldable pub read_var : List Lexeme → Out (List ℕ)
+read_var ts = token var_of ts
 
 -- reads a metavariable
 unfoldable pub read_meta : List Lexeme → Out (List ℕ)
@@ -149,6 +166,6 @@ read_kind ts = token kind_of ts
 unfoldable pub read_kinds : List Lexeme → Out (List Kind)
 read_kinds ts = separated Comma read_kind ts
 
--- reads names of one segment between commas
-unfoldable pub read_names : List Lexeme → Out (List (List ℕ))
-read_names ts = separated Comma read_plain_name ts
+-- reads variables between commas
+unfoldable pub read_vars : List Lexeme → Out (List (List ℕ))
+read_vars ts = separated Comma read_var ts

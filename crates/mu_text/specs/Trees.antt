@@ -5,10 +5,10 @@ use Rattle.mu_text.specs.Parts.{Out}
 use Rattle.mu_text.specs.Writings.{Writing, IsTree}
 use Rattle.mu_text.specs.Machine.{top, want, run}
 
--- a tree in which at most 400 levels of brackets are open at once, as it is written
+-- a tree in which at most 400 levels are open at once, as it is written
 abbrev pub OneTree : List Lexeme → Writing → Type 0
 OneTree ts w = IsTree 400 ts w
 
 -- reads a tree
 unfoldable pub read_tree : List Lexeme → Out Writing
-read_tree ts = run (want 400 top) ts
+read_tree ts = run (want 400 0 top) ts

@@ -1,11 +1,14 @@
-ghost use Rattle.std.specs.Prelude.{◌≡◌, ◌≤◌, ◌+◌, [], ◌∷◌, ◌++◌, IfOk, IsTrue, ◌↔◌};
+ghost use Rattle.std.specs.Prelude.{◌≡◌, ◌≤◌, ◌+◌, [], ◌∷◌, ◌++◌, IfOk, IsTrue, ◌↔◌, max};
 ghost use Rattle.mu_text.specs.Writings.{made as made_of};
-ghost use Rattle.mu_text.specs.Reads.{capped, Built, Added};
+ghost use Rattle.mu_tree.specs.declared.trees.Tree.TheVariants as tree;
+ghost use Rattle.mu_text.specs.Reads.{capped, Built, Enclosing, Added};
 
 use crate::fault::PartFault;
 use crate::operand::{Operand, Several};
+use crate::ops::{ATOM_LEVEL, PREFIX_LEVEL};
 use crate::symbol::Word;
 use mu_tree::{Name, Tree, Trees};
+use sqlite_items::Boxed;
 use std::alloc::{AllocError, Global};
 
 /// The most nodes of a tree that is built.
@@ -43,30 +46,145 @@ fn made(head: Word, name: Name, trees: Trees) -> Tree
 
 /// A head alone.
 pub fn leaf(alloc: Global, head: Word, name: Name) -> Operand
-    ensures { Built (made_of head name []) 1 1 result }
+    ensures { Built (made_of head name []) 7 1 1 result }
 {
     Operand {
         tree: made(head, name, Trees::new(alloc)),
+        level: ATOM_LEVEL,
         size: 1,
         depth: 1,
     }
 }
 
 /// A head with arguments.
-pub fn applied(alloc: Global, head: Word, name: Name, args: Several) -> Operand
-    ensures { Built (made_of head name args.trees) (args.size + 1) (args.depth + 1) result }
+pub fn applied(alloc: Global, head: Word, name: Name, args: Several) -> Result<Operand, AllocError>
+    ensures { IfOk result (λ operand. Built (made_of head name args.trees) 7 (args.size + 1) (args.depth + 1) operand) }
 {
     let size = sum(args.size, 1);
     let depth = sum(args.depth, 1);
-    if !is_within(size, depth) {
-        let tree = made(head, name, Trees::new(alloc));
-        return Operand { tree, size, depth };
-    }
-    Operand {
-        tree: made(head, name, args.trees),
+    let trees = if is_within(size, depth) {
+        fitted(alloc, args.trees)?
+    } else {
+        Trees::new(alloc)
+    };
+    Ok(Operand {
+        tree: made(head, name, trees),
+        level: ATOM_LEVEL,
         size,
         depth,
+    })
+}
+
+/// A tree in parentheses.
+pub fn atom(operand: Operand) -> Operand
+    ensures { Enclosing operand result }
+{
+    Operand {
+        tree: operand.tree,
+        level: ATOM_LEVEL,
+        size: operand.size,
+        depth: operand.depth,
     }
+}
+
+/// `not` and its operand.
+pub fn negated(alloc: Global, name: Name, operand: Operand) -> Result<Operand, AllocError>
+    ensures { IfOk result (λ o. Built (tree.App name (operand.tree ∷ [])) 5 (operand.size + 1) (operand.depth + 1) o) }
+{
+    let size = sum(operand.size, 1);
+    let depth = sum(operand.depth, 1);
+    let tree = if is_within(size, depth) {
+        Tree::App(name, one(alloc, operand.tree)?)
+    } else {
+        operand.tree
+    };
+    Ok(Operand {
+        tree,
+        level: PREFIX_LEVEL,
+        size,
+        depth,
+    })
+}
+
+/// An operator and its operands.
+pub fn joined(
+    alloc: Global,
+    name: Name,
+    level: u8,
+    left: Operand,
+    right: Operand,
+) -> Result<Operand, AllocError>
+    ensures { IfOk result (λ o. Built (tree.App name (left.tree ∷ right.tree ∷ [])) level (left.size + right.size + 1) (max left.depth right.depth + 1) o) }
+{
+    let size = sum(sum(left.size, right.size), 1);
+    let depth = sum(left.depth.max(right.depth), 1);
+    let tree = if is_within(size, depth) {
+        Tree::App(name, two(alloc, left.tree, right.tree)?)
+    } else {
+        left.tree
+    };
+    Ok(Operand {
+        tree,
+        level,
+        size,
+        depth,
+    })
+}
+
+/// A binder with its variable, domain and body.
+pub fn bound(
+    alloc: Global,
+    binder: Name,
+    var: Name,
+    dom: Operand,
+    body: Operand,
+) -> Result<Operand, AllocError>
+    ensures { IfOk result (λ o. Built (tree.Bind binder var dom.tree body.tree) 7 (dom.size + body.size + 1) (max dom.depth body.depth + 1) o) }
+{
+    let size = sum(sum(dom.size, body.size), 1);
+    let depth = sum(dom.depth.max(body.depth), 1);
+    let tree = if is_within(size, depth) {
+        Tree::Bind {
+            binder,
+            var,
+            dom: Boxed::new(alloc, dom.tree)?,
+            body: Boxed::new(alloc, body.tree)?,
+        }
+    } else {
+        dom.tree
+    };
+    Ok(Operand {
+        tree,
+        level: ATOM_LEVEL,
+        size,
+        depth,
+    })
+}
+
+// the same trees in a list that has no more room than they need
+fn fitted(alloc: Global, trees: Trees) -> Result<Trees, AllocError>
+    ensures { IfOk result (λ fit. fit ≡ trees) }
+{
+    let mut fit = Trees::from_vec(Vec::with_capacity(alloc, trees.len())?);
+    fit.append(trees)?;
+    Ok(fit)
+}
+
+fn one(alloc: Global, only: Tree) -> Result<Trees, AllocError>
+    ensures { IfOk result (λ trees. trees ≡ only ∷ []) }
+{
+    let mut trees = Vec::with_capacity(alloc, 1)?;
+    trees.push(only)?;
+    Ok(Trees::from_vec(trees))
+}
+
+fn two(alloc: Global, left: Tree, right: Tree) -> Result<Trees, AllocError>
+    ensures { IfOk result (λ trees. trees ≡ left ∷ right ∷ []) }
+{
+    let mut trees = Vec::with_capacity(alloc, 2)?;
+    trees.push(left)?;
+    trees.push(right)?;
+    Ok(Trees::from_vec(trees))
 }
 
 /// No trees yet.

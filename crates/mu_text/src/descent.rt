@@ -1,42 +1,164 @@
-ghost use Rattle.std.specs.Prelude.{◌≡◌, ℕ, ◌<◌, ◌≤◌, List, length};
+ghost use Rattle.std.specs.Prelude.{◌≡◌, ℕ, ◌<◌, ◌≤◌, List, length, OnOk};
 ghost use Rattle.mu_tree.specs.Names.{IsName};
-ghost use Rattle.mu_text.specs.Reads.{ReadsTree, ReadsNamed, ReadsArguments};
-ghost use Rattle.mu_text.specs.declared.symbol.Word.{Word};
+ghost use Rattle.mu_text.specs.Lexemes.{first_sort};
+ghost use Rattle.mu_text.specs.Machine.{beginning_of};
+ghost use Rattle.mu_text.specs.Reads.{Expects, ExpectsVar, GrowsTo, Offers, OperatorFirst, ReadsArguments, ReadsBinder, ReadsNamed, ReadsOperand, ReadsTree, Stands};
+ghost use Rattle.mu_text.specs.Writings.{Writing};
+ghost use Rattle.mu_text.specs.declared.way.Beginning.TheVariants as begins;
 
-use crate::build::{added, applied, leaf, none};
+use crate::build::{added, applied, atom, bound, joined, leaf, negated, none};
 use crate::fault::PartFault;
 use crate::operand::{Operand, Several};
+use crate::ops::{Op, PREFIX_LEVEL, constant};
 use crate::parts::kept_name;
 use crate::reader::Reader;
-use crate::symbol::Word;
+use crate::symbol::{Mark, Sort, Word};
 use crate::way::{Beginning, Ending, Opening};
 use mu_tree::Name;
 use std::alloc::Global;
 
-/// The most levels of brackets that may be open at once in a tree of a line.
+/// The most levels that may be open at once in a tree of a line.
 pub const MOST_NESTING: u32 = 400;
 
 impl<'a> Reader<'a> {
-    /// Reads the tree that the tokens begin with, and leaves what follows it. In it at most `nesting` levels of brackets
-    /// are open at once.
+    // the operator that comes first, if its level is no less than the least, and a tree of this level may stand before it
+    fn operator(&self, least: u8, level: u8) -> Option<Op>
+        ensures { Offers self.now least level result }
+    {
+        let op = Op::of(self.peek())?;
+        if least <= op.level && op.left <= level {
+            Some(op)
+        } else {
+            None
+        }
+    }
+
+    fn expect(&mut self, mark: Mark) -> Result<(), PartFault>
+        ensures shorter { length self.new ≤ length self.old }
+        ensures expects { Expects mark self.old result self.new }
+    {
+        match self.peek() {
+            Some(Sort::Mark(found)) if found == mark => {
+                self.skip();
+                Ok(())
+            }
+            _ => Err(PartFault::Mismatch),
+        }
+    }
+
+    fn var(&mut self, alloc: Global) -> Result<Name, PartFault>
+        ensures shorter { length self.new ≤ length self.old }
+        ensures reads { ExpectsVar self.old result self.new }
+    {
+        match self.peek() {
+            Some(Sort::Word(Word::Plain)) => {
+                let name = kept_name(alloc, self.bytes())?;
+                self.skip();
+                Ok(name)
+            }
+            _ => Err(PartFault::Mismatch),
+        }
+    }
+
+    /// Reads the tree that the tokens begin with, of the least level or a higher one, and leaves what follows it. In it at
+    /// most `nesting` levels are open at once.
     ///
     /// # Errors
     ///
     /// `Mismatch` where no tree goes on: the first token that is left then, or the end of the tokens, is the first with which
     /// none does. `NoMemory`, at any tokens.
     #[cycle(trees)]
-    pub fn tree(&mut self, alloc: Global, nesting: u32) -> Result<Operand, PartFault>
+    pub fn tree(&mut self, alloc: Global, nesting: u32, least: u8) -> Result<Operand, PartFault>
+        requires { least ≤ 7 }
         ensures shorter { length self.new ≤ length self.old }
-        ensures reads { ReadsTree nesting self.old result self.new }
+        ensures reads { ReadsTree nesting least self.old result self.new }
+    {
+        let mut left = self.operand(alloc, nesting, least)?;
+        while let Some(op) = self.operator(least, left.level) {
+            left = self.operation(alloc, nesting, least, left, op)?;
+        }
+        Ok(left)
+    }
+
+    /// Reads the operator that comes first, and its right operand.
+    #[cycle(trees)]
+    fn operation(
+        &mut self,
+        alloc: Global,
+        nesting: u32,
+        least: u8,
+        left: Operand,
+        op: Op,
+    ) -> Result<Operand, PartFault>
+        requires operator { OperatorFirst self.old op }
+        requires low { least ≤ op.level }
+        requires left { op.left ≤ left.level }
+        ensures shorter { length self.new ≤ length self.old }
+        ensures taken { OnOk result (length self.new < length self.old) }
+        ensures grows { (w : Writing) → Stands w left → GrowsTo nesting least w self.old result self.new }
+    {
+        if nesting < op.opens {
+            return Err(PartFault::Mismatch);
+        }
+        self.skip();
+        let right = self.tree(alloc, nesting - op.opens, op.right)?;
+        let name = kept_name(alloc, constant(op.mark))?;
+        let operand = joined(alloc, name, op.level, left, right)?;
+        Ok(operand)
+    }
+
+    /// Reads a tree that is no operator's.
+    #[cycle(trees)]
+    fn operand(&mut self, alloc: Global, nesting: u32, least: u8) -> Result<Operand, PartFault>
+        requires { least ≤ 7 }
+        ensures shorter { length self.new ≤ length self.old }
+        ensures reads { ReadsOperand nesting least self.old result self.new }
     {
         match Beginning::of(self.peek()) {
             Beginning::Head(head) => {
                 let name = kept_name(alloc, self.bytes())?;
                 self.skip();
-                self.named(alloc, nesting, head, name)
+                self.named(alloc, nesting, least, head, name)
             }
+            Beginning::Paren => self.paren(alloc, nesting, least),
+            Beginning::Negation => self.negation(alloc, nesting, least),
             Beginning::Nothing => Err(PartFault::Mismatch),
         }
+    }
+
+    /// Reads a tree in parentheses.
+    #[cycle(trees)]
+    fn paren(&mut self, alloc: Global, nesting: u32, least: u8) -> Result<Operand, PartFault>
+        requires least { least ≤ 7 }
+        requires first { beginning_of (first_sort self.old) ≡ begins.Paren }
+        ensures shorter { length self.new ≤ length self.old }
+        ensures reads { ReadsOperand nesting least self.old result self.new }
+    {
+        if nesting == 0 {
+            return Err(PartFault::Mismatch);
+        }
+        self.skip();
+        let tree = self.tree(alloc, nesting - 1, 0)?;
+        self.expect(Mark::Close)?;
+        Ok(atom(tree))
+    }
+
+    /// Reads `not` and its operand.
+    #[cycle(trees)]
+    fn negation(&mut self, alloc: Global, nesting: u32, least: u8) -> Result<Operand, PartFault>
+        requires least { least ≤ 7 }
+        requires first { beginning_of (first_sort self.old) ≡ begins.Negation }
+        ensures shorter { length self.new ≤ length self.old }
+        ensures reads { ReadsOperand nesting least self.old result self.new }
+    {
+        if least > PREFIX_LEVEL || nesting == 0 {
+            return Err(PartFault::Mismatch);
+        }
+        self.skip();
+        let tree = self.tree(alloc, nesting - 1, PREFIX_LEVEL)?;
+        let name = kept_name(alloc, constant(Mark::Not))?;
+        let operand = negated(alloc, name, tree)?;
+        Ok(operand)
     }
 
     /// Reads what follows the head of a tree.
@@ -45,11 +167,13 @@ impl<'a> Reader<'a> {
         &mut self,
         alloc: Global,
         nesting: u32,
+        least: u8,
         head: Word,
         name: Name,
     ) -> Result<Operand, PartFault>
+        requires { least ≤ 7 }
         ensures shorter { length self.new ≤ length self.old }
-        ensures reads { (text : List ℕ) → (IsName text → name ≡ text) → ReadsNamed head text nesting self.old result self.new }
+        ensures reads { (text : List ℕ) → (IsName text → name ≡ text) → ReadsNamed head text nesting least self.old result self.new }
     {
         match Opening::of(head, self.peek()) {
             Opening::Nothing => Ok(leaf(alloc, head, name)),
@@ -58,24 +182,62 @@ impl<'a> Reader<'a> {
                     return Err(PartFault::Mismatch);
                 }
                 self.skip();
-                let args = self.arguments(alloc, nesting)?;
-                Ok(applied(alloc, head, name, args))
+                let args = self.arguments(alloc, nesting, least, head)?;
+                let operand = applied(alloc, head, name, args)?;
+                Ok(operand)
+            }
+            Opening::Binder => {
+                if nesting == 0 {
+                    return Err(PartFault::Mismatch);
+                }
+                self.skip();
+                self.binder(alloc, nesting, least, head, name)
             }
         }
     }
 
-    /// Reads arguments, and the bracket that closes them.
+    /// Reads what follows the brace of a binder.
     #[cycle(trees)]
-    fn arguments(&mut self, alloc: Global, nesting: u32) -> Result<Several, PartFault>
+    fn binder(
+        &mut self,
+        alloc: Global,
+        nesting: u32,
+        least: u8,
+        head: Word,
+        name: Name,
+    ) -> Result<Operand, PartFault>
         requires { 0 < nesting }
         ensures shorter { length self.new ≤ length self.old }
-        ensures reads { (head : Word) (text : List ℕ) → ReadsArguments head text nesting self.old result self.new }
+        ensures reads { (text : List ℕ) → (IsName text → name ≡ text) → ReadsBinder head text nesting least self.old result self.new }
+    {
+        let var = self.var(alloc)?;
+        self.expect(Mark::Colon)?;
+        let dom = self.tree(alloc, nesting - 1, 0)?;
+        self.expect(Mark::Dot)?;
+        let body = self.tree(alloc, nesting - 1, 0)?;
+        self.expect(Mark::CloseBrace)?;
+        let operand = bound(alloc, name, var, dom, body)?;
+        Ok(operand)
+    }
+
+    /// Reads arguments, and the bracket that closes them.
+    #[cycle(trees)]
+    fn arguments(
+        &mut self,
+        alloc: Global,
+        nesting: u32,
+        least: u8,
+        head: Word,
+    ) -> Result<Several, PartFault>
+        requires { 0 < nesting }
+        ensures shorter { length self.new ≤ length self.old }
+        ensures reads { (text : List ℕ) → ReadsArguments head text nesting least self.old result self.new }
     {
         let mut args = none(alloc);
         loop {
-            let tree = self.tree(alloc, nesting - 1)?;
+            let tree = self.tree(alloc, nesting - 1, 0)?;
             args = added(args, tree)?;
-            match Ending::of(self.peek()) {
+            match Ending::of(head, self.peek()) {
                 Ending::GoesOn => self.skip(),
                 Ending::Closes => {
                     self.skip();
@@ -84,61 +246,5 @@ impl<'a> Reader<'a> {
                 Ending::Nothing => return Err(PartFault::Mismatch),
             }
         }
-    }
-}
-
-#[cfg(test)]
-mod tests {
-    use super::*;
-    use crate::tokens::Tokens;
-    use std::test::Fail;
-
-    #[test]
-    fn counts_nodes_and_ways_down(rt: HostRuntime) -> Result<(), Fail> {
-        let alloc = rt.alloc();
-        let line = b"f(x, ?m), y".as_slice();
-        let tokens = Tokens::read(alloc, line)?;
-        let mut reader = Reader::new(line, tokens.items());
-        let operand = reader.tree(alloc, MOST_NESTING)?;
-        assert_eq!(rt; operand.size, 3);
-        assert_eq!(rt; operand.depth, 2);
-        assert_eq!(rt; operand.tree.size(), 3);
-        assert_eq!(rt; operand.tree.depth(), 2);
-        assert_eq!(rt; reader.len(), 2);
-        Ok(())
-    }
-
-    // f(f(..f(x)..))
-    fn nested(alloc: Global, levels: usize) -> Result<Vec<u8>, Fail> {
-        let mut line = Vec::new(alloc);
-        for _ in 0..levels {
-            line.extend_from_slice(b"f(")?;
-        }
-        line.push(b'x')?;
-        for _ in 0..levels {
-            line.push(b')')?;
-        }
-        Ok(line)
-    }
-
-    #[test]
-    fn stops_at_one_level_too_many(rt: HostRuntime) -> Result<(), Fail> {
-        let alloc = rt.alloc();
-        for (levels, wanted, left) in [(400, Some(401), 0), (401, None, 403)] {
-            let line = nested(alloc, levels)?;
-            let tokens = Tokens::read(alloc, line.as_slice())?;
-            let mut reader = Reader::new(line.as_slice(), tokens.items());
-            match reader.tree(alloc, MOST_NESTING) {
-                Ok(operand) => {
-                    assert!(rt; wanted == Some(operand.size));
-                    assert!(rt; wanted == Some(operand.depth));
-                    assert_eq!(rt; operand.tree.size(), 1);
-                }
-                Err(PartFault::Mismatch) => assert!(rt; wanted.is_none()),
-                Err(PartFault::NoMemory) => return Err(PartFault::NoMemory.into()),
-            }
-            assert_eq!(rt; reader.len(), left);
-        }
-        Ok(())
     }
 }

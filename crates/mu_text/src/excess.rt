@@ -1,6 +1,9 @@
-ghost use Rattle.std.specs.Prelude.{◌≡◌, ◌||◌};
+ghost use Rattle.std.specs.Prelude.{◌≡◌, ◌||◌, nat_lt};
+ghost use Rattle.mu_text.specs.Excesses.{no_excess};
 
-/// Whether some tree passes a limit on trees.
+use crate::build::{MOST_DEPTH, MOST_NODES};
+
+/// Which limits the trees of a line pass. Where a tree passes one, another tree stands for it.
 #[derive(Clone, Copy, Debug, PartialEq, Eq)]
 pub struct Excess {
     /// Some tree has more than 4,096 nodes.
@@ -9,22 +12,23 @@ pub struct Excess {
     pub depth: bool,
 }
 
-/// A value, and whether some tree in it passes a limit. Where one does, another tree stands for it.
-#[derive(Debug, Drop)]
-pub struct Measured<T> {
-    pub value: T,
-    pub excess: Excess,
-}
-
 impl Excess {
-    /// What passes a limit in the one or the other.
-    pub fn or(self, other: Excess) -> Excess
-        ensures nodes { result.nodes ≡ self.nodes || other.nodes }
-        ensures depth { result.depth ≡ self.depth || other.depth }
+    /// No limit is passed.
+    pub fn none() -> Excess
+        ensures { result ≡ no_excess }
     {
         Excess {
-            nodes: self.nodes || other.nodes,
-            depth: self.depth || other.depth,
+            nodes: false,
+            depth: false,
         }
+    }
+
+    /// Raises the limits that a tree with these counts passes.
+    pub fn raise(&mut self, size: u64, depth: u64)
+        ensures nodes { self.new.nodes ≡ self.old.nodes || nat_lt 4096 size }
+        ensures depth { self.new.depth ≡ self.old.depth || nat_lt 200 depth }
+    {
+        self.nodes = self.nodes || size > MOST_NODES;
+        self.depth = self.depth || depth > MOST_DEPTH;
     }
 }

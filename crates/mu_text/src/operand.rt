@@ -3,13 +3,15 @@ ghost use Rattle.mu_tree.specs.Trees.{size as size_of, depth as depth_of, deepes
 
 use mu_tree::{Tree, Trees};
 
-/// A tree that was read, and its counts. Past a limit its tree is not built: a smaller one stands for it.
+/// A tree that was read, its level and its counts. Past a limit its tree is not built: a smaller one stands for it.
 ///
 /// The counts stop at 5000, past both limits.
 #[derive(Drop)]
 pub struct Operand {
     /// The tree, if it is within the limits.
     pub tree: Tree,
+    /// The level of the tree as it is written.
+    pub level: u8,
     /// How many nodes the tree has that was read.
     pub size: u64,
     /// How many nodes the longest way down in it has.

@@ -5,12 +5,13 @@ ghost use Rattle.std.specs.Prelude.{◌≡◌, ◌↔◌, IsTrue, true, Some, No
 ghost use Rattle.mu_tree.specs.Names.{is_digit as digit_test};
 ghost use Rattle.std.specs.List.{list_all};
 ghost use Rattle.mu_text.specs.declared.fault.PartFault.TheVariants as fault;
-ghost use Rattle.mu_text.specs.Groups.{read_argument_kinds};
+ghost use Rattle.mu_text.specs.Groups.{read_argument_kinds, read_parameters};
 ghost use Rattle.mu_text.specs.Marks.{is_mark};
 ghost use Rattle.mu_text.specs.Parts.{Gives, Same, StandsEach, at_end, first_as, starts};
-ghost use Rattle.mu_text.specs.SimpleParts.{StandsName, is_number as number_test, is_word as word_test, name_of, number_from, number_of, place_of, plain_name_of, read_kind, read_kinds, read_mark, read_meta, read_name, read_names, read_place, read_plain_name, read_word};
+ghost use Rattle.mu_text.specs.SimpleParts.{StandsName, is_number as number_test, is_word as word_test, name_of, kind_of, number_from, number_of, place_of, plain_name_of, read_kind, read_kinds, read_mark, read_meta, read_name, read_place, read_plain_name, read_var, read_vars, read_word};
 
 mod claims;
+mod declarations;
 mod reasons;
 mod refs;
 mod trees;
@@ -20,11 +21,12 @@ use crate::reader::Reader;
 use crate::symbol::{Mark, Sort, Word};
 use crate::tokens::{MOST_DIGITS, split, starts_positive};
 pub use claims::claim;
+pub use declarations::{DeclaredConstant, declaration};
 use mu_tree::{Kind, Kinds, Name, NameFault, Names};
 pub use reasons::{abstraction, abstractions, reason};
 pub use refs::{reference, references};
 use std::alloc::Global;
-pub use trees::{measured_tree, tree};
+pub use trees::tree;
 
 /// A name with these bytes; where they are past the limit of a name, some other name stands in its place.
 ///
@@ -78,7 +80,8 @@ fn plain_name_bytes<'a>(reader: &'a Reader) -> Option<&'a [u8]>
     }
 }
 
-fn name_bytes<'a>(reader: &'a Reader) -> Option<&'a [u8]>
+/// The bytes of the first token where it is a name.
+pub fn name_bytes<'a>(reader: &'a Reader) -> Option<&'a [u8]>
     ensures { MatchOption result (first_as name_of reader.now ≡ None) (λ name. first_as name_of reader.now ≡ Some name.now) }
 {
     match reader.peek() {
@@ -122,6 +125,25 @@ pub fn name(alloc: Global, reader: &mut Reader) -> Result<Name, PartFault>
             Ok(name)
         }
         None => Err(PartFault::Mismatch),
+    }
+}
+
+/// Reads a variable: a name of one segment that is no operator's word and not `true`.
+///
+/// # Errors
+///
+/// `Mismatch` where the first token is no variable; then no token is passed over. `NoMemory`.
+#[tactic(auto, unfolding(crate::specs::SimpleParts::read_var))]
+pub fn var(alloc: Global, reader: &mut Reader) -> Result<Name, PartFault>
+    ensures { Gives StandsName (read_var reader.old) result reader.new }
+{
+    match reader.peek() {
+        Some(Sort::Word(Word::Plain)) => {
+            let name = kept_name(alloc, reader.bytes())?;
+            reader.skip();
+            Ok(name)
+        }
+        _ => Err(PartFault::Mismatch),
     }
 }
 
@@ -238,7 +260,19 @@ pub fn mark(reader: &mut Reader, mark: Mark) -> Result<(), PartFault>
     Ok(())
 }
 
-/// Reads a kind.
+fn kind_seen(reader: &Reader) -> Option<Kind>
+    ensures { result ≡ first_as kind_of reader.now }
+{
+    if sees_word(reader, b"e") {
+        return Some(Kind::E);
+    }
+    if sees_word(reader, b"t") {
+        return Some(Kind::T);
+    }
+    None
+}
+
+/// Reads a kind: `e` or `t`.
 ///
 /// # Errors
 ///
@@ -247,11 +281,13 @@ pub fn mark(reader: &mut Reader, mark: Mark) -> Result<(), PartFault>
 pub fn kind(reader: &mut Reader) -> Result<Kind, PartFault>
     ensures { Gives Same (read_kind reader.old) result reader.new }
 {
-    if !sees_word(reader, b"e") {
-        return Err(PartFault::Mismatch);
+    match kind_seen(reader) {
+        Some(kind) => {
+            reader.skip();
+            Ok(kind)
+        }
+        None => Err(PartFault::Mismatch),
     }
-    reader.skip();
-    Ok(Kind::E)
 }
 
 /// Passes over the end of the line.
@@ -285,27 +321,45 @@ pub fn kinds(alloc: Global, reader: &mut Reader) -> Result<Kinds, PartFault>
         let next = kind(reader)?;
         kinds.push(next)?;
     }
-    Ok(kinds)
+    Ok(kinds.fit(alloc)?)
 }
 
-/// Reads names of one segment between commas, at least one.
+/// Reads variables between commas, at least one.
 ///
 /// # Errors
 ///
 /// `Mismatch` at the first token with which no such list goes on. `NoMemory`.
-#[tactic(auto, unfolding(crate::specs::SimpleParts::read_names))]
-pub fn names(alloc: Global, reader: &mut Reader) -> Result<Names, PartFault>
-    ensures { Gives (StandsEach StandsName) (read_names reader.old) result reader.new }
+#[tactic(auto, unfolding(crate::specs::SimpleParts::read_vars))]
+pub fn vars(alloc: Global, reader: &mut Reader) -> Result<Names, PartFault>
+    ensures { Gives (StandsEach StandsName) (read_vars reader.old) result reader.new }
 {
     let mut names = Names::new(alloc);
-    let first = plain_name(alloc, reader)?;
+    let first = var(alloc, reader)?;
     names.push(first)?;
     while sees(reader, Mark::Comma) {
         reader.skip();
-        let next = plain_name(alloc, reader)?;
+        let next = var(alloc, reader)?;
         names.push(next)?;
     }
-    Ok(names)
+    Ok(names.fit(alloc)?)
+}
+
+/// Reads the parameters of an abstraction: variables between commas, in brackets. Where there are none, no token is read.
+///
+/// # Errors
+///
+/// `Mismatch` at the first token with which no such part goes on. `NoMemory`.
+#[tactic(auto, unfolding(crate::specs::Groups::read_parameters))]
+pub fn parameters(alloc: Global, reader: &mut Reader) -> Result<Names, PartFault>
+    ensures { Gives (StandsEach StandsName) (read_parameters reader.old) result reader.new }
+{
+    if !sees(reader, Mark::OpenBracket) {
+        return Ok(Names::new(alloc));
+    }
+    mark(reader, Mark::OpenBracket)?;
+    let read = vars(alloc, reader)?;
+    mark(reader, Mark::CloseBracket)?;
+    Ok(read)
 }
 
 /// Reads the kinds of a constant's arguments: between commas, in parentheses. Where there are none, no token is read.
@@ -330,87 +384,29 @@ pub fn argument_kinds(alloc: Global, reader: &mut Reader) -> Result<Kinds, PartF
 mod tests {
     use super::*;
     use crate::tokens::Tokens;
+    use mu_tree::Shape;
     use std::test::Fail;
 
     #[test]
-    fn reads_each_part(rt: HostRuntime) -> Result<(), Fail> {
+    fn reads_parts(rt: HostRuntime) -> Result<(), Fail> {
         let alloc = rt.alloc();
-        let line = b"const and a.b.c not ?x1 #120 -> e";
+        let line = b"and a.b.c ?x1 #120 x l (e, t) forall{e} -> e";
         let tokens = Tokens::read(alloc, line)?;
         let mut reader = Reader::new(line, tokens.items());
-        assert!(rt; sees_word(&reader, b"const"));
-        assert!(rt; word(&mut reader, b"const").is_ok());
         assert!(rt; plain_name(alloc, &mut reader)?.bytes() == b"and".as_slice());
         assert!(rt; name(alloc, &mut reader)?.bytes() == b"a.b.c".as_slice());
-        assert!(rt; name(alloc, &mut reader)?.bytes() == b"not".as_slice());
         assert!(rt; meta(alloc, &mut reader)?.bytes() == b"x1".as_slice());
         assert!(rt; place(&mut reader) == Ok(120));
-        assert!(rt; sees(&reader, Mark::Arrow));
-        assert!(rt; mark(&mut reader, Mark::Arrow).is_ok());
-        assert!(rt; end(&mut reader) == Err(PartFault::Mismatch));
-        assert!(rt; kind(&mut reader) == Ok(Kind::E));
-        assert!(rt; end(&mut reader).is_ok());
-        Ok(())
-    }
-
-    #[test]
-    fn stops_before_other_tokens(rt: HostRuntime) -> Result<(), Fail> {
-        let alloc = rt.alloc();
-        let line = b"a.b t 7";
-        let tokens = Tokens::read(alloc, line)?;
-        let mut reader = Reader::new(line, tokens.items());
-        assert!(rt; plain_name(alloc, &mut reader) == Err(PartFault::Mismatch));
-        assert!(rt; meta(alloc, &mut reader) == Err(PartFault::Mismatch));
-        assert!(rt; place(&mut reader) == Err(PartFault::Mismatch));
-        assert!(rt; word(&mut reader, b"a.bc") == Err(PartFault::Mismatch));
-        assert!(rt; mark(&mut reader, Mark::Dot) == Err(PartFault::Mismatch));
-        assert!(rt; reader.len() == 3);
-        reader.skip();
-        assert!(rt; kind(&mut reader) == Err(PartFault::Mismatch));
-        reader.skip();
-        assert!(rt; name(alloc, &mut reader) == Err(PartFault::Mismatch));
-        Ok(())
-    }
-
-    #[test]
-    fn reads_lists(rt: HostRuntime) -> Result<(), Fail> {
-        let alloc = rt.alloc();
-        let lines: [(&[u8], Option<usize>, usize); 6] = [
-            (b"-> e", Some(0), 2),
-            (b"(e) -> e", Some(1), 2),
-            (b"(e, e ,e)", Some(3), 0),
-            (b"(e,) -> e", None, 3),
-            (b"()", None, 1),
-            (b"(e", None, 0),
-        ];
-        for (line, wanted, left) in lines.iter() {
-            let tokens = Tokens::read(alloc, line)?;
-            let mut reader = Reader::new(line, tokens.items());
-            let read = argument_kinds(alloc, &mut reader)
-                .ok()
-                .map(|kinds| kinds.len());
-            assert!(rt; read == *wanted);
-            assert!(rt; reader.len() == *left);
+        assert!(rt; var(alloc, &mut reader)?.bytes() == b"x".as_slice());
+        assert_eq!(rt; references(alloc, &mut reader)?.len(), 1);
+        assert_eq!(rt; argument_kinds(alloc, &mut reader)?.len(), 2);
+        let declared = declaration(alloc, &mut reader)?;
+        assert!(rt; declared.name.bytes() == b"forall".as_slice());
+        match declared.shape {
+            Shape::Binder(body) => assert!(rt; body == Kind::E),
+            Shape::Plain(_) => assert!(rt; false),
         }
-        let line = b"x, true,y z";
-        let tokens = Tokens::read(alloc, line)?;
-        let mut reader = Reader::new(line, tokens.items());
-        let read = names(alloc, &mut reader)?;
-        assert!(rt; read.len() == 3);
-        assert!(rt; read.items()[1].bytes() == b"true".as_slice());
-        assert!(rt; reader.len() == 1);
-        Ok(())
-    }
-
-    #[test]
-    fn keeps_no_long_name(rt: HostRuntime) -> Result<(), Fail> {
-        let alloc = rt.alloc();
-        let line = [b'a'; 65];
-        let tokens = Tokens::read(alloc, &line)?;
-        let mut reader = Reader::new(&line, tokens.items());
-        let read = name(alloc, &mut reader)?;
-        assert!(rt; read.bytes().len() <= 64);
-        assert!(rt; reader.len() == 0);
+        assert!(rt; end(&mut reader).is_ok());
         Ok(())
     }
 }

@@ -8,6 +8,10 @@ use crate::symbol::{Mark, Sort, Word};
 pub enum Beginning {
     /// The name or the metavariable at its head.
     Head(Word),
+    /// A parenthesis.
+    Paren,
+    /// `not`.
+    Negation,
     /// No tree begins with this token.
     Nothing,
 }
@@ -17,6 +21,8 @@ pub enum Beginning {
 pub enum Opening {
     /// The bracket that opens its arguments.
     Arguments,
+    /// The brace that opens a binder.
+    Binder,
     /// The tree does not go on with this token.
     Nothing,
 }
@@ -40,6 +46,8 @@ impl Beginning {
         match sort {
             Some(Sort::Word(Word::Place)) => Beginning::Nothing,
             Some(Sort::Word(head)) => Beginning::Head(head),
+            Some(Sort::Mark(Mark::Open)) => Beginning::Paren,
+            Some(Sort::Mark(Mark::Not)) => Beginning::Negation,
             _ => Beginning::Nothing,
         }
     }
@@ -52,21 +60,25 @@ impl Opening {
     {
         match (head, sort) {
             (Word::Place, _) => Opening::Nothing,
+            (Word::Meta, Some(Sort::Mark(Mark::OpenBracket))) => Opening::Arguments,
             (Word::Meta, _) => Opening::Nothing,
             (_, Some(Sort::Mark(Mark::Open))) => Opening::Arguments,
+            (_, Some(Sort::Mark(Mark::OpenBrace))) => Opening::Binder,
             _ => Opening::Nothing,
         }
     }
 }
 
 impl Ending {
-    /// What this token is behind an argument.
-    pub fn of(sort: Option<Sort>) -> Ending
-        ensures { result ≡ ending_of sort }
+    /// What this token is behind an argument of the head.
+    pub fn of(head: Word, sort: Option<Sort>) -> Ending
+        ensures { result ≡ ending_of head sort }
     {
-        match sort {
-            Some(Sort::Mark(Mark::Comma)) => Ending::GoesOn,
-            Some(Sort::Mark(Mark::Close)) => Ending::Closes,
+        match (head, sort) {
+            (_, Some(Sort::Mark(Mark::Comma))) => Ending::GoesOn,
+            (Word::Meta, Some(Sort::Mark(Mark::CloseBracket))) => Ending::Closes,
+            (Word::Meta, _) => Ending::Nothing,
+            (_, Some(Sort::Mark(Mark::Close))) => Ending::Closes,
             _ => Ending::Nothing,
         }
     }

@@ -2,6 +2,7 @@
 use Rattle.std.proofs.Common.{◌≡◌, ℕ, false, List, None, refl}
 use Rattle.mu_tree.specs.declared.claim.Claim.{Claim}
 use Rattle.mu_tree.specs.declared.claim.Kind.{Kind}
+use Rattle.mu_tree.specs.declared.claim.Shape.{Shape}
 use Rattle.mu_command.specs.declared.command.Command.{Command}
 use Rattle.mu_command.specs.declared.command.Command.TheVariants.{Theory, Constant, Axiom, Rule, Status}
 use Rattle.mural.specs.Answers.{queried, touches_base}
@@ -12,10 +13,10 @@ asks_nothing (Status rule) other = absurd (other rule refl)
 asks_nothing _ other = refl
 
 -- no other command declares something
-pub declares_nothing : (c : Command) → ((unit : List ℕ) → c ≡ Theory unit → ⊥) → ((unit name : List ℕ) (arguments : List Kind) (result : Kind) → c ≡ Constant unit name arguments result → ⊥)
+pub declares_nothing : (c : Command) → ((unit : List ℕ) → c ≡ Theory unit → ⊥) → ((unit name : List ℕ) (shape : Shape) (result : Kind) → c ≡ Constant unit name shape result → ⊥)
     → ((unit rule : List ℕ) (claim : Claim) → c ≡ Axiom unit rule claim → ⊥) → ((unit rule : List ℕ) (claim : Claim) → c ≡ Rule unit rule claim → ⊥) → false ≡ touches_base c
 declares_nothing (Theory unit) theory constant stated derived = absurd (theory unit refl)
-declares_nothing (Constant unit name arguments result) theory constant stated derived = absurd (constant unit name arguments result refl)
+declares_nothing (Constant unit name shape result) theory constant stated derived = absurd (constant unit name shape result refl)
 declares_nothing (Axiom unit rule claim) theory constant stated derived = absurd (stated unit rule claim refl)
 declares_nothing (Rule unit rule claim) theory constant stated derived = absurd (derived unit rule claim refl)
 declares_nothing _ theory constant stated derived = refl

@@ -13,7 +13,7 @@ neither false b e = e
 
 pub storable : (command : Command) → HasPlainNames command → touches_base command ≡ false → IsStorable command
 storable (Theory unit) plain other = (plain, other)
-storable (Constant unit name arguments result) plain other = (plain.1, neither _ _ other)
+storable (Constant unit name shape result) plain other = (plain.1, neither _ _ other)
 storable (Axiom unit rule claim) plain other = plain.1
 storable (Rule unit rule claim) plain other = plain.1
 storable (Proof rule proof) plain other = tt

@@ -1,9 +1,17 @@
 -- The answer to one line: its command carried out on a store, and the reply.
-use Rattle.std.specs.Prelude.{ℕ, Bool, true, false, ◌||◌, ◌++◌, ◌==◌, nat_lt, if◌then◌else◌, List, [], ◌∷◌, length, Option, Some, None, codes}
+use Rattle.std.specs.Prelude.{ℕ, Bool, true, false, ◌||◌, ◌&&◌, ◌++◌, ◌==◌, nat_lt, if◌then◌else◌, List, [], ◌∷◌, length, Option, Some, None, codes}
+use Rattle.std.specs.Bool.{nat_eq}
+use Rattle.std.specs.Option.{option_map_or}
+use Rattle.std.specs.List.{list_any}
+use Rattle.std.specs.Cmp.Lexicographic.{pointwise}
 use Rattle.std.specs.FinMap as finite
 use Rattle.mu_tree.specs.declared.refusal.Refusal.{Refusal}
-use Rattle.mu_tree.specs.declared.refusal.Refusal.TheVariants.{Syntax, Unknown}
+use Rattle.mu_tree.specs.declared.refusal.Refusal.TheVariants.{Syntax, Limit, Unknown}
+use Rattle.mu_tree.specs.declared.refusal.LimitWord.{LimitWord}
 use Rattle.mu_text.specs.Reading.{is_blank}
+use Rattle.mu_text.specs.Lexemes.{Lexeme, after_first, items_of}
+use Rattle.mu_text.specs.Parts.{first_as}
+use Rattle.mu_text.specs.SimpleParts.{name_of}
 use Rattle.mu_decl.specs.declared.declaration.Statement.{Statement}
 use Rattle.mu_flat.specs.Base.{is_base, is_base_constant}
 use Rattle.mu_flat.specs.Entries.{Entries}
@@ -66,7 +74,7 @@ step entries command = step_by entries command (queried command)
 -- the command would declare the base theory, or something in it, or one of its constants
 abbrev pub touches_base : Command → Bool
 touches_base (Theory unit) = is_base unit
-touches_base (Constant unit name arguments result) = is_base unit || is_base_constant name
+touches_base (Constant unit name shape result) = is_base unit || is_base_constant name
 touches_base (Axiom unit rule claim) = is_base unit
 touches_base (Rule unit rule claim) = is_base unit
 touches_base _ = false
@@ -97,15 +105,30 @@ answered outcome = record { entries = outcome.entries; reply = Some outcome.repl
 abbrev pub carry_out : Entries → Command → Answer
 carry_out entries command = if touches_base command then no_command entries 1 else answered (step entries command)
 
--- the answer to a line that is read so: where a limit is passed, it is refused at its first column
-abbrev pub read_out : Entries → Reading → Answer
-read_out entries (reading.Command command) = carry_out entries command
-read_out entries (reading.Past excess) = no_command entries 1
-read_out entries (reading.Refused column) = no_command entries column
-read_out entries reading.LongName = no_command entries 1
+-- the first token is a name that passes the test
+abbrev pub names : (List ℕ → Bool) → List Lexeme → Bool
+names test ts = option_map_or test (first_as name_of ts) false
+
+-- the word of a form that declares something in a theory, which follows
+abbrev pub is_declaring : List ℕ → Bool
+is_declaring text = list_any (pointwise nat_eq text) (codes "theory" ∷ codes "const" ∷ codes "axiom" ∷ codes "rule" ∷ [])
+
+-- the tokens of a command begin as those of one that touches the base theory: this is the theory, or a constant of it is to be declared
+abbrev pub begins_in_base : List Lexeme → Bool
+begins_in_base ts = names is_declaring ts && (names is_base (after_first ts) || names (pointwise nat_eq (codes "const")) ts && names is_base_constant (after_first (after_first ts)))
+
+-- a command that passes a limit is refused for it, unless it touches the base theory
+abbrev pub past_limit : Entries → List Lexeme → LimitWord → Answer
+past_limit entries ts word = if begins_in_base ts then no_command entries 1 else record { entries = entries; reply = Some (Refused (Limit word)) }
+
+-- the answer to a line that is read so
+abbrev pub read_out : Entries → List Lexeme → Reading → Answer
+read_out entries ts (reading.Command command) = carry_out entries command
+read_out entries ts (reading.Limit word) = past_limit entries ts word
+read_out entries ts (reading.Refused column) = no_command entries column
 
 -- the answer to a line
 unfoldable pub answer : Entries → List ℕ → Answer
 answer entries line =
     if nat_lt longest_line (length line) then no_command entries 1
-    else (if is_quiet line then record { entries = entries; reply = None } else read_out entries (reading_of line))
+    else (if is_quiet line then record { entries = entries; reply = None } else read_out entries (items_of line) (reading_of line))

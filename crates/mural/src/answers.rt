@@ -2,8 +2,10 @@ ghost use Rattle.std.specs.Prelude.{◌≡◌, false, Some, IfOk, OnErr};
 ghost use Rattle.std.specs.Option.{option_copied};
 ghost use Rattle.std.specs.FinMap as finite;
 ghost use Rattle.mu_command.specs.Plain.{HasPlainNames};
+ghost use Rattle.mu_flat.specs.Entries.{Entries};
+ghost use Rattle.mu_text.specs.Lexemes.{items_of};
 ghost use Rattle.mu_edit.specs.Changes.{refusal};
-ghost use Rattle.mural.specs.Answers.{answer, carry_out, is_quiet as quiet_test, outcome, queried as asked_for, query as query_outcome, status_page, touches_base as base_test};
+ghost use Rattle.mural.specs.Answers.{answer, begins_in_base, carry_out, is_declaring as declaring_test, is_quiet as quiet_test, outcome, past_limit, queried as asked_for, query as query_outcome, status_page, touches_base as base_test};
 
 use crate::reply::Reply;
 use mu_command::{Command, Reading, read};
@@ -11,8 +13,9 @@ use mu_decl::{Context, Statement};
 use mu_edit::apply;
 use mu_flat::{EditFault, Store, is_base, is_base_constant};
 use mu_status::{RuleStatus, status};
-use mu_text::is_blank;
-use mu_tree::{Bytes, Name, NoMemory, Refusal};
+use mu_text::parts::name_bytes;
+use mu_text::{Reader, Tokens, is_blank, parts};
+use mu_tree::{Bytes, LimitWord, Name, NoMemory, Refusal};
 use std::alloc::Global;
 
 /// The most bytes that a line may have.
@@ -40,7 +43,7 @@ pub(crate) fn answer_line(
     }
     match read(alloc, line)? {
         Reading::Command(command) => Ok(Some(carry_out(alloc, store, command)?)),
-        Reading::Past(_) | Reading::LongName => Ok(Some(no_command(1))),
+        Reading::Limit(word) => Ok(Some(past_limit(alloc, line, word)?)),
         Reading::Refused(column) => Ok(Some(no_command(column as u32))),
     }
 }
@@ -50,6 +53,40 @@ fn no_command(column: u32) -> Reply
     ensures { result ≡ Reply.Refused (Refusal.Syntax column) }
 {
     Reply::Refused(Refusal::Syntax(column))
+}
+
+/// The reply to a command that passes a limit.
+///
+/// # Errors
+///
+/// `NoMemory`.
+fn past_limit(alloc: Global, line: &[u8], word: LimitWord) -> Result<Reply, NoMemory>
+    ensures { IfOk result (λ reply. (entries : Entries) → past_limit entries (items_of line.now) word ≡ record { entries = entries; reply = Some reply }) }
+{
+    let tokens = Tokens::read(alloc, line)?;
+    if begins_in_base(Reader::new(line, tokens.items())) {
+        return Ok(no_command(1));
+    }
+    Ok(Reply::Refused(Refusal::Limit(word)))
+}
+
+/// Whether a command with these tokens touches the base theory.
+fn begins_in_base(mut reader: Reader) -> bool
+    ensures { result ≡ begins_in_base reader }
+{
+    let declares = name_bytes(&reader).is_some_and(is_declaring);
+    let is_constant = parts::sees_word(&reader, b"const");
+    reader.skip();
+    let in_base = name_bytes(&reader).is_some_and(is_base);
+    reader.skip();
+    declares && (in_base || is_constant && name_bytes(&reader).is_some_and(is_base_constant))
+}
+
+/// Whether a form with this word declares something in the theory that follows.
+fn is_declaring(text: &[u8]) -> bool
+    ensures { result ≡ declaring_test text.now }
+{
+    matches!(text, b"theory" | b"const" | b"axiom" | b"rule")
 }
 
 /// Whether the line is blanks, or its first other byte is `#`.

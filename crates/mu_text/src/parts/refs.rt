@@ -49,48 +49,5 @@ pub fn references(alloc: Global, reader: &mut Reader) -> Result<Refs, PartFault>
         let next = reference(alloc, reader)?;
         refs.push(next)?;
     }
-    Ok(refs)
-}
-
-#[cfg(test)]
-mod tests {
-    use super::*;
-    use crate::tokens::Tokens;
-    use std::test::Fail;
-
-    fn is(reference: &Ref, label: &[u8], number: u32) -> bool {
-        match reference {
-            Ref::Item(name) => name.bytes() == label && number == 0,
-            Ref::Assumption(..) => false,
-            Ref::Hypothesis(place) => label.is_empty() && *place == number,
-        }
-    }
-
-    #[test]
-    fn reads_references(rt: HostRuntime) -> Result<(), Fail> {
-        let alloc = rt.alloc();
-        let lines: [(&[u8], Option<(&[u8], u32)>, usize); 7] = [
-            (b"a1 with", Some((b"a1", 0)), 1),
-            (b"a1 #2", Some((b"a1", 0)), 1),
-            (b"a, #12", Some((b"", 12)), 0),
-            (b"#3, and", Some((b"and", 0)), 0),
-            (b"a,", None, 0),
-            (b"a, ,", None, 1),
-            (b"a.b", None, 1),
-        ];
-        for (line, wanted, left) in lines.iter() {
-            let tokens = Tokens::read(alloc, line)?;
-            let mut reader = Reader::new(line, tokens.items());
-            match (references(alloc, &mut reader), wanted) {
-                (Ok(refs), Some((label, number))) => match refs.items() {
-                    [.., last] => assert!(rt; is(last, label, *number)),
-                    [] => assert!(rt; false),
-                },
-                (Err(PartFault::Mismatch), None) => (),
-                _ => assert!(rt; false),
-            }
-            assert_eq!(rt; reader.len(), *left);
-        }
-        Ok(())
-    }
+    Ok(refs.fit(alloc)?)
 }

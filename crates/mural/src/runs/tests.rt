@@ -1,5 +1,6 @@
 mod examples;
 mod transcripts;
+mod trees;
 
 use super::*;
 use examples::{FIRST, FIRST_REPLIES, examples};
@@ -7,6 +8,7 @@ use mu_outside::{Desk, Faults};
 use mu_tree::{Bytes, NoMemory, Numbers};
 use std::test::Fail;
 use transcripts::transcripts;
+use trees::trees;
 
 fn desk(alloc: Global, input: &[u8], takes: &[u64], tells: &[u64]) -> Result<Desk, NoMemory> {
     let input = Bytes::from_vec(Vec::from_slice(alloc, input)?);
@@ -136,6 +138,12 @@ fn answers_as_in_the_transcripts(rt: HostRuntime) -> Result<(), Fail> {
     for (number, transcript) in transcripts().iter().enumerate() {
         assert!(rt; is_right(rt.alloc(), transcript)?, "transcript {number}");
     }
+    for (number, transcript) in trees().iter().enumerate() {
+        assert!(rt;
+            is_right(rt.alloc(), transcript)?,
+            "transcript {number} on trees"
+        );
+    }
     Ok(())
 }
 
@@ -234,10 +242,42 @@ fn reads_large_trees(rt: HostRuntime) -> Result<(), Fail> {
     add_axiom(&mut input, b"g", &[(open, 400), (p, 1), (close, 400)])?;
     add_axiom(&mut input, b"h", &[(open, 401), (p, 1), (close, 401)])?;
     add_axiom(&mut input, b"i", &[(open, 4095), (p, 1), (close, 4095)])?;
+    add_operators(&mut input)?;
     input.extend_from_slice(b"status a\nstatus c\n")?;
     let mut desk = desk(alloc, &input, &[], &[])?;
     assert_eq!(rt; run(alloc, &[], &mut desk), Status::SomeRefused);
     assert!(rt; desk.told() == LARGE_REPLIES);
+    Ok(())
+}
+
+/// Adds axioms at the limits that are made of operators and binders, the last one in the base theory.
+fn add_operators(input: &mut Vec<u8>) -> Result<(), NoMemory> {
+    let not: &[u8] = b"not ";
+    let imp: &[u8] = b"p => ";
+    let or: &[u8] = b"p or ";
+    let all: &[u8] = b"forall{x:p. ";
+    let (p, close, long): (&[u8], &[u8], &[u8]) = (b"p", b"}", &[b'a'; 65]);
+
+    // depth 200 and 201, 400 open levels and 401
+    add_axiom(input, b"j", &[(not, 199), (p, 1)])?;
+    add_axiom(input, b"k", &[(not, 200), (p, 1)])?;
+    add_axiom(input, b"l", &[(imp, 400), (p, 1)])?;
+    add_axiom(input, b"m", &[(imp, 401), (p, 1)])?;
+    add_axiom(input, b"n", &[(all, 199), (p, 1), (close, 199)])?;
+    add_axiom(input, b"o", &[(all, 400), (p, 1), (close, 400)])?;
+    add_axiom(input, b"o", &[(all, 401), (p, 1), (close, 401)])?;
+
+    // 4,097 nodes that are 2,049 deep, also with a long name, and what is not read whole
+    add_axiom(input, b"q", &[(or, 2048), (p, 1)])?;
+    add_axiom(input, b"q", &[(or, 2048), (long, 1)])?;
+    add_axiom(input, b"q", &[(or, 2048), (not, 1)])?;
+
+    // the base theory goes before a limit
+    input.extend_from_slice(b"axiom base a : ")?;
+    for _ in 0..200 {
+        input.extend_from_slice(not)?;
+    }
+    input.extend_from_slice(b"p\n")?;
     Ok(())
 }
 
@@ -247,12 +287,23 @@ ok
 ok
 ok
 ok
-refused syntax 1
+refused limit nodes
 ok
-refused syntax 1
-refused syntax 1
+refused limit depth
+refused limit depth
 refused syntax 814
 refused syntax 814
+ok
+refused limit depth
+refused limit depth
+refused syntax 2015
+ok
+refused limit depth
+refused syntax 4819
+refused limit nodes
+refused limit name
+refused syntax 10256
+refused syntax 1
 a axiom established
 c axiom established
 ";

@@ -1,13 +1,9 @@
-use Rattle.mu_text.proofs.Rows.{row_made, row_next, row_end}
+use Rattle.std.proofs.Common.{refl}
+use Rattle.mu_text.specs.declared.symbol.Mark.TheVariants.{Colon}
 use Rattle.mu_command.specs.declared.forms.Form.TheVariants.{Axiom}
-use Rattle.mu_command.specs.Parts.{Value, Kept, read_part, StandsPart}
-use Rattle.mu_command.specs.Grammar.{read_parts, row, make_kept}
-use Rattle.mu_command.proofs.FormLemmas.{last_excess}
+use Rattle.mu_command.specs.Parts.{plain, sign, claim}
+use Rattle.mu_command.proofs.FormLemmas.{makes, silent, raising, ends}
 use Rattle.mu_command.proofs.grammar.read_axiom.Goals as goal
 
 pub returns : goal.returns
-unfolding read_parts
-returns c =
-    row_made Value Kept read_part StandsPart (row Axiom) (make_kept Axiom) _ _ (c.in_ok-unit.unit, (c.in_ok-rule.rule, (tt, (c.in_ok-claim.claim, tt)))) _
-    (search (row_next, row_end, c.in_ok-unit.ensures, c.in_ok-rule.ensures, c.in_ok-mark.ensures, c.in_ok-claim.ensures) depth 24)
-    (last_excess _ _)
+returns c = makes Axiom (c.in_ok-unit.unit, (c.in_ok-rule.rule, (tt, (c.in_ok-claim.claim, tt)))) _ (silent plain (λ v. refl) c.in_ok-unit.ensures (silent plain (λ v. refl) c.in_ok-rule.ensures (silent (sign Colon) (λ v. refl) c.in_ok-mark.ensures (raising claim c.in_ok-claim.ensures ends)))) refl

@@ -1,13 +1,13 @@
+use Rattle.std.proofs.Common.{refl}
 use Rattle.mu_text.proofs.Rows.{row_made, row_next, row_end}
 use Rattle.mu_command.specs.declared.forms.Form.TheVariants.{Constant}
-use Rattle.mu_command.specs.Parts.{Value, Kept, read_part, StandsPart}
-use Rattle.mu_command.specs.Grammar.{read_parts, row, make_kept}
-use Rattle.mu_command.proofs.FormLemmas.{measured_is}
+use Rattle.mu_command.specs.Parts.{Value, Meant, read_part, StandsPart}
+use Rattle.mu_command.specs.Grammar.{read_parts, row, make}
 use Rattle.mu_command.proofs.grammar.read_constant.Goals as goal
 
 pub returns : goal.returns
 unfolding read_parts
 returns c =
-    row_made Value Kept read_part StandsPart (row Constant) (make_kept Constant) _ _ (c.in_ok-unit.unit, (c.in_ok-name.name, (c.in_ok-arguments.arguments, (tt, (c.in_ok-result.result, tt))))) _
-    (search (row_next, row_end, c.in_ok-unit.ensures, c.in_ok-name.ensures, c.in_ok-arguments.ensures, c.in_ok-mark.ensures, c.in_ok-result.ensures) depth 24)
-    (measured_is _ _ _ c.without_trees.ensures.value c.without_trees.ensures.excess)
+    row_made Value Meant read_part StandsPart (row Constant) (make Constant) _ _ (c.in_ok-unit.unit, (c.in_ok-declared.declared, tt)) _
+    (search (row_next, row_end, c.in_ok-unit.ensures, c.in_ok-declared.ensures) depth 24)
+    refl

@@ -1,13 +1,10 @@
-use Rattle.mu_text.proofs.Rows.{row_made, row_next, row_end}
+use Rattle.std.proofs.Common.{refl}
+use Rattle.std.specs.Prelude.{codes}
+use Rattle.mu_text.specs.declared.symbol.Mark.TheVariants.{Colon}
 use Rattle.mu_command.specs.declared.forms.Form.TheVariants.{Line}
-use Rattle.mu_command.specs.Parts.{Value, Kept, read_part, StandsPart}
-use Rattle.mu_command.specs.Grammar.{read_parts, row, make_kept}
-use Rattle.mu_command.proofs.FormLemmas.{last_excess}
+use Rattle.mu_command.specs.Parts.{name, plain, given, sign, before, tree}
+use Rattle.mu_command.proofs.FormLemmas.{makes, silent, raising, ends}
 use Rattle.mu_command.proofs.grammar.read_line.Goals as goal
 
 pub returns : goal.returns
-unfolding read_parts
-returns c =
-    row_made Value Kept read_part StandsPart (row Line) (make_kept Line) _ _ (c.in_ok-rule.rule, (c.in_ok-proof.proof, (c.in_ok-label.label, (tt, (c.in_ok-block.block, (c.in_ok-before.before, (tt, (c.in_ok-tree.tree, tt)))))))) _
-    (search (row_next, row_end, c.in_ok-rule.ensures, c.in_ok-proof.ensures, c.in_ok-label.ensures, c.in_ok-word.ensures, c.in_ok-block.ensures, c.in_ok-before.ensures, c.in_ok-mark.ensures, c.in_ok-tree.ensures) depth 24)
-    (last_excess _ _)
+returns c = makes Line (c.in_ok-rule.rule, (c.in_ok-proof.proof, (c.in_ok-label.label, (tt, (c.in_ok-block.block, (c.in_ok-before.before, (tt, (c.in_ok-tree.tree, tt)))))))) _ (silent name (λ v. refl) c.in_ok-rule.ensures (silent plain (λ v. refl) c.in_ok-proof.ensures (silent plain (λ v. refl) c.in_ok-label.ensures (silent (given (codes "in")) (λ v. refl) c.in_ok-word.ensures (silent name (λ v. refl) c.in_ok-block.ensures (silent before (λ v. refl) c.in_ok-before.ensures (silent (sign Colon) (λ v. refl) c.in_ok-mark.ensures (raising tree c.in_ok-tree.ensures ends)))))))) refl

@@ -1,13 +1,13 @@
+use Rattle.std.proofs.Common.{refl}
 use Rattle.mu_text.proofs.Rows.{row_made, row_next, row_end}
 use Rattle.mu_command.specs.declared.forms.Form.TheVariants.{Status}
-use Rattle.mu_command.specs.Parts.{Value, Kept, read_part, StandsPart}
-use Rattle.mu_command.specs.Grammar.{read_parts, row, make_kept}
-use Rattle.mu_command.proofs.FormLemmas.{measured_is}
+use Rattle.mu_command.specs.Parts.{Value, Meant, read_part, StandsPart}
+use Rattle.mu_command.specs.Grammar.{read_parts, row, make}
 use Rattle.mu_command.proofs.grammar.read_status.Goals as goal
 
 pub returns : goal.returns
 unfolding read_parts
 returns c =
-    row_made Value Kept read_part StandsPart (row Status) (make_kept Status) _ _ (c.in_ok-rule.rule, tt) _
+    row_made Value Meant read_part StandsPart (row Status) (make Status) _ _ (c.in_ok-rule.rule, tt) _
     (search (row_next, row_end, c.in_ok-rule.ensures) depth 24)
-    (measured_is _ _ _ c.without_trees.ensures.value c.without_trees.ensures.excess)
+    refl

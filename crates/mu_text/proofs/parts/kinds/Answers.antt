@@ -1,7 +1,7 @@
 use Rattle.mu_text.specs.SimpleParts.{read_kinds}
 use Rattle.mu_text.proofs.Simple.{Exact-kind}
 use Rattle.mu_text.specs.declared.symbol.Mark.TheVariants.{Comma}
-use Rattle.mu_text.proofs.Turns.{fewer, finish, finish_same, start, turn}
+use Rattle.mu_text.proofs.Turns.{fewer, finish, finish_same, refitted, start, turn}
 use Rattle.mu_text.proofs.parts.kinds.Goals as goal
 
 pub loop-reader-init : goal.loop-reader-init
@@ -15,4 +15,4 @@ loop-reader-smaller c = fewer Comma Exact-kind _ _ c.sees.ensures c.loop-reader-
 
 pub returns : goal.returns
 unfolding read_kinds
-returns c = finish_same (finish c.loop-reader.invariant c.sees.ensures c.loop-reader-test.false)
+returns c = refitted (finish_same (finish c.loop-reader.invariant c.sees.ensures c.loop-reader-test.false)) c.in_ok-fit.ensures

@@ -55,7 +55,7 @@ refused syntax 1
 refused syntax 1
 > const t true -> e
 refused syntax 1
-> const t r -> t
+> const t r -> k
 refused syntax 14
 > const nope r -> e
 refused unknown nope
@@ -135,12 +135,12 @@ refused syntax 17
 refused syntax 16
 > axiom t i : p()
 refused syntax 15
-> axiom t i : (p)
-refused syntax 13
-> axiom t i : not p
-refused syntax 13
-> axiom t i : p and q
+> axiom t i : (p
 refused syntax 15
+> axiom t i : not
+refused syntax 16
+> axiom t i : p and
+refused syntax 18
 > axiom t i : ?a; ?b |- ?a
 ok
 > axiom t mp : ?a(p)
@@ -344,7 +344,7 @@ refused syntax 1
 > aaaaaaaaaaaaaaaaaaaaaaaaaaaaaaaaaaaaaaaaaaaaaaaaaaaaaaaaaaaaaaaaa b
 refused syntax 1
 > status aaaaaaaaaaaaaaaaaaaaaaaaaaaaaaaaaaaaaaaaaaaaaaaaaaaaaaaaaaaaaaaaa
-refused syntax 1
+refused limit name
 > # aaaaaaaaaaaaaaaaaaaaaaaaaaaaaaaaaaaaaaaaaaaaaaaaaaaaaaaaaaaaaaaaa
 > status aaaaaaaaaaaaaaaaaaaaaaaaaaaaaaaaaaaaaaaaaaaaaaaaaaaaaaaaaaaaaaaa
 refused unknown aaaaaaaaaaaaaaaaaaaaaaaaaaaaaaaaaaaaaaaaaaaaaaaaaaaaaaaaaaaaaaaa

@@ -1,21 +1,26 @@
 use Rattle.std.proofs.Common.{ap}
 use Rattle.mu_text.specs.declared.symbol.Mark.TheVariants.{Semicolon}
 use Rattle.mu_text.specs.Parts.{◌>>=◌, with_first, read_more}
-use Rattle.mu_text.specs.Reasons.{read_abstraction}
+use Rattle.mu_text.specs.Reasons.{StandsAbstraction, trees_in_abstraction, read_abstraction, read_abstractions}
 use Rattle.mu_text.proofs.Reasons.{Exact-abstraction}
-use Rattle.mu_text.proofs.Excesses.{first_measured, next_measured}
-use Rattle.mu_text.proofs.Turns.{advance, begin, fewer}
+use Rattle.mu_text.proofs.Excesses.{first_raised, next_raised, all_raised}
+use Rattle.mu_text.proofs.Turns.{advance, begin, fewer, finish}
 use Rattle.mu_text.proofs.parts.reasons.abstractions.Goals as goal
 
-pub loop-alloc-init : goal.loop-alloc-init
-loop-alloc-init c =
+pub loop-reader-init : goal.loop-reader-init
+loop-reader-init c =
     let first = c.in_ok-first.ensures in
-    begin first.value (ap (λ out. out >>= (λ z r. with_first z (read_more Semicolon read_abstraction r))) first.is) (first_measured first.stands c.new-inst.ensures c.in_ok-push.ensures.ok)
+    begin first.value (ap (λ out. out >>= (λ z r. with_first z (read_more Semicolon read_abstraction r))) first.is)
+    (first_raised StandsAbstraction trees_in_abstraction _ _ first.value _ _ _ first.stands c.new-inst.ensures c.in_ok-push.ensures.ok)
 
-pub loop-alloc-preserved : goal.loop-alloc-preserved
-loop-alloc-preserved c =
-    advance Exact-abstraction c.loop-alloc.invariant c.sees.ensures c.loop-alloc-test.true c.skip.ensures c.in_ok-next.ensures
-    (λ front x all one. next_measured all one c.in_ok-push-2.ensures.ok (record { nodes = c.or-excess.ensures.nodes; depth = c.or-excess.ensures.depth }))
+pub loop-reader-preserved : goal.loop-reader-preserved
+loop-reader-preserved c =
+    advance Exact-abstraction c.loop-reader.invariant c.sees.ensures c.loop-reader-test.true c.skip.ensures c.in_ok-next.ensures
+    (λ front x all one. next_raised StandsAbstraction trees_in_abstraction _ _ _ front _ _ x _ all one c.in_ok-push-2.ensures.ok)
 
-pub loop-alloc-smaller : goal.loop-alloc-smaller
-loop-alloc-smaller c = fewer Semicolon Exact-abstraction _ _ c.sees.ensures c.loop-alloc-test.true c.skip.ensures c.in_ok-next.ensures
+pub loop-reader-smaller : goal.loop-reader-smaller
+loop-reader-smaller c = fewer Semicolon Exact-abstraction _ _ c.sees.ensures c.loop-reader-test.true c.skip.ensures c.in_ok-next.ensures
+
+pub returns : goal.returns
+unfolding read_abstractions
+returns c = all_raised StandsAbstraction trees_in_abstraction _ _ _ _ _ _ (finish c.loop-reader.invariant c.sees.ensures c.loop-reader-test.false) c.in_ok-fit.ensures

@@ -1,12 +1,14 @@
 use Rattle.std.proofs.Common.{length}
 use Rattle.mu_text.specs.declared.symbol.Mark.TheVariants.{Semicolon}
 use Rattle.mu_text.specs.Parts.{separated}
-use Rattle.mu_text.specs.Reasons.{StandsAbstractions, read_abstraction}
+use Rattle.mu_text.specs.Reasons.{StandsAbstraction, trees_in_abstraction, read_abstraction}
+use Rattle.mu_text.proofs.Excesses.{RaisingEach}
 use Rattle.mu_text.proofs.Turns.{Turn}
 use Rattle.mu_text.proofs.parts.reasons.abstractions.Given as goal
 
-abbrev pub invariant-loop-alloc : goal.invariant-loop-alloc
-invariant-loop-alloc l = Turn StandsAbstractions Semicolon read_abstraction (separated Semicolon read_abstraction l.fn.reader) l.reader (record { value = l.inst; excess = l.excess })
+abbrev pub invariant-loop-reader : goal.invariant-loop-reader
+invariant-loop-reader l =
+    Turn (RaisingEach StandsAbstraction trees_in_abstraction l.fn.excess) Semicolon read_abstraction (separated Semicolon read_abstraction l.fn.reader) l.reader (l.excess, l.inst)
 
-abbrev pub decreases-loop-alloc : goal.decreases-loop-alloc
-decreases-loop-alloc l = length l.reader
+abbrev pub decreases-loop-reader : goal.decreases-loop-reader
+decreases-loop-reader l = length l.reader

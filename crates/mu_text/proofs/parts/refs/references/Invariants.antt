@@ -5,8 +5,8 @@ use Rattle.mu_text.specs.References.{StandsReference, read_reference}
 use Rattle.mu_text.proofs.Turns.{Turn}
 use Rattle.mu_text.proofs.parts.refs.references.Given as goal
 
-abbrev pub invariant-loop-alloc : goal.invariant-loop-alloc
-invariant-loop-alloc l = Turn (StandsEach StandsReference) Comma read_reference (separated Comma read_reference l.fn.reader) l.reader l.refs
+abbrev pub invariant-loop-reader : goal.invariant-loop-reader
+invariant-loop-reader l = Turn (StandsEach StandsReference) Comma read_reference (separated Comma read_reference l.fn.reader) l.reader l.refs
 
-abbrev pub decreases-loop-alloc : goal.decreases-loop-alloc
-decreases-loop-alloc l = length l.reader
+abbrev pub decreases-loop-reader : goal.decreases-loop-reader
+decreases-loop-reader l = length l.reader

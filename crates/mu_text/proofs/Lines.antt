@@ -1,0 +1,140 @@
+-- What reading a text by itself says of it.
+use Rattle.std.proofs.Common.{◌≡◌, ℕ, ◌-◌, Bool, true, false, List, [], ◌∷◌, length, drop, refl, ap, sym, ◌∙◌, subst, arith}
+use Rattle.std.specs.Prelude.{◌<◌, ◌≤◌, ◌&&◌, ◌==◌, if◌then◌else◌, nat_le, Result, Ok, Err}
+use Rattle.std.specs.List.{list_all, AllByRecursion}
+use Rattle.std.proofs.lemmas.Bool.{false≢true, and_parts, eqb-true}
+use Rattle.std.proofs.lemmas.Bool.Decides.{nat_tests}
+use Rattle.std.proofs.lemmas.List.Splits.{slice_split_none}
+use Rattle.std.proofs.lemmas.List.{length-map}
+use Rattle.std.proofs.lemmas.List.Elements.{All-from_recursion}
+use Rattle.mu_tree.specs.Names.{IsName, is_letter, is_name_byte, is_segment, is_name, is_short, segments}
+use Rattle.mu_tree.specs.declared.refusal.LimitWord.TheVariants as limit
+use Rattle.mu_text.specs.declared.symbol.Word.TheVariants as word
+use Rattle.mu_text.specs.declared.symbol.Sort.{Sort}
+use Rattle.mu_text.specs.declared.symbol.Sort.TheVariants as sort
+use Rattle.mu_text.specs.declared.token.Token.{Token}
+use Rattle.mu_text.specs.declared.token.TokenSort.{TokenSort}
+use Rattle.mu_text.specs.declared.token.TokenSort.TheVariants.{Name, Meta, Place, Symbol, Wrong}
+use Rattle.mu_text.specs.declared.fault.PartFault.{PartFault}
+use Rattle.mu_text.specs.declared.fault.PartFault.TheVariants as part
+use Rattle.mu_text.specs.declared.texts.TextFault.TheVariants as fault
+use Rattle.mu_text.specs.declared.excess.Excess.{Excess}
+use Rattle.mu_text.specs.Reading.{text_of, is_meta}
+use Rattle.mu_text.specs.Tokens.{tokens}
+use Rattle.mu_text.specs.Lexemes.{Lexeme, item, items, items_of, item_of, sort_in, word_in}
+use Rattle.mu_text.specs.Parts.{Out, stopped, Read, Gives, Refused, End}
+use Rattle.mu_text.specs.Writings.{Writing}
+use Rattle.mu_text.specs.Excesses.{excess_of, no_excess, raised, Raising}
+use Rattle.mu_text.specs.Limits.{WithinToken, WithinTokens, IsMeant}
+use Rattle.mu_text.specs.Texts.{segments_of, is_short_token, has_short_tokens, AreWithin, column, ReadsText, within_limits, answer}
+use Rattle.mu_text.proofs.Exact.{Exact}
+use Rattle.mu_text.proofs.Excesses.{raised-none, same_excess}
+use Rattle.mu_text.proofs.Facts.{IsTokenOf, tokens_hold}
+use Rattle.mu_text.proofs.Whole.{read_whole, left_over, left_off}
+
+no_dot : (byte : ℕ) → is_name_byte byte ≡ true → (byte == 46) ≡ false
+no_dot byte e = grind (arith, nat_tests)
+
+letter_no_dot : (byte : ℕ) → is_letter byte ≡ true → (byte == 46) ≡ false
+letter_no_dot byte e = grind (arith, nat_tests)
+
+no_dots : (bytes : List ℕ) → list_all is_name_byte bytes ≡ true → AllByRecursion (λ byte. (byte == 46) ≡ false) bytes
+no_dots [] e = tt
+no_dots (byte ∷ bytes) e = let parts = and_parts (is_name_byte byte) (list_all is_name_byte bytes) e in (no_dot byte parts.0, no_dots bytes parts.1)
+
+-- what an item is made of is a name, or it is a mark
+sort_kept : (s : Sort) (text : List ℕ) → IsName text → WithinToken (item_of s text)
+sort_kept (sort.Word word.Plain) text n = n
+sort_kept (sort.Word word.Dotted) text n = n
+sort_kept (sort.Word word.True) text n = n
+sort_kept (sort.Word word.Meta) text n = n
+sort_kept (sort.Word word.Place) text n = tt
+sort_kept (sort.Mark m) text n = tt
+
+-- a segment is a name
+segment_is_name : (text : List ℕ) → is_segment text ≡ true → is_name text ≡ true
+segment_is_name [] e = absurd (false≢true e)
+segment_is_name (byte ∷ bytes) e =
+    let parts = and_parts (is_letter byte) (list_all is_name_byte bytes) e in
+    let letter : (byte == 46) ≡ false = letter_no_dot byte parts.0 in
+    let alone : segments (byte ∷ bytes) ≡ (byte ∷ bytes) ∷ [] = slice_split_none (λ b. b == 46) (byte ∷ bytes) (All-from_recursion (λ b. (b == 46) ≡ false) (byte ∷ bytes) (letter, no_dots bytes parts.1)) in
+    ap (λ ss. list_all is_segment ss && nat_le (length ss) 3) alone ∙ ap (λ b. (b && true) && true) e
+
+meta_segment : (text : List ℕ) → is_meta text ≡ true → is_segment (drop 1 text) ≡ true
+meta_segment [] e = absurd (false≢true e)
+meta_segment (byte ∷ bytes) e = (and_parts (byte == 63) (is_segment bytes) e).1
+
+-- a token by its sort and its bytes
+kept_as : (s : TokenSort) (text : List ℕ) → (s ≡ Name → is_name text ≡ true) → (s ≡ Meta → is_meta text ≡ true) → is_short (segments_of s text) ≡ true → WithinToken (item_of (sort_in text s) (word_in text s))
+kept_as Name text name meta short = sort_kept (sort_in text Name) text (record { spelled = name refl; short = short })
+kept_as Meta text name meta short = record { spelled = segment_is_name (drop 1 text) (meta_segment text (meta refl)); short = short }
+kept_as Place text name meta short = tt
+kept_as Symbol text name meta short = tt
+kept_as Wrong text name meta short = tt
+
+token_kept : (line : List ℕ) (token : Token) → IsTokenOf line token → is_short_token line token ≡ true → WithinToken (item line token)
+unfolding item
+token_kept line token is short = kept_as token.sort (text_of line token) is.name is.meta short
+
+tokens_kept : (line : List ℕ) (ts : List Token) → AllByRecursion (IsTokenOf line) ts → list_all (is_short_token line) ts ≡ true → WithinTokens (items line ts)
+tokens_kept line [] is short = tt
+tokens_kept line (token ∷ ts) is short =
+    let parts = and_parts (is_short_token line token) (list_all (is_short_token line) ts) short in
+    (token_kept line token is.0 parts.0, tokens_kept line ts is.1 parts.1)
+
+-- the names of a line are kept, where no segment is too long
+pub line_kept : (line : List ℕ) → has_short_tokens line ≡ true → WithinTokens (items_of line)
+line_kept line short = tokens_kept line (tokens line) (tokens_hold line) short
+
+same_length : (line : List ℕ) → length (items_of line) ≡ length (tokens line)
+same_length line = length-map (tokens line) (item line)
+
+within_each : (line : List ℕ) (ts : List Token) → AllByRecursion (IsTokenOf line) ts → AllByRecursion (λ token. (token.from < length line) × (token.to ≤ length line)) ts
+within_each line [] is = tt
+within_each line (token ∷ ts) (is, rest) =
+    let some : token.from < token.to = is.some in
+    let within : token.to ≤ length line = is.within in
+    ((omega arith, within), within_each line ts rest)
+
+-- the bytes of each token of a line are in it
+pub all_within : (line : List ℕ) → AreWithin line (tokens line)
+all_within line = All-from_recursion (λ token. (token.from < length line) × (token.to ≤ length line)) (tokens line) (within_each line (tokens line) (tokens_hold line))
+
+module _ {A B : Type 0} (G : List Lexeme → A → Type 0) (trees : A → List Writing) (S : A → B → Type 0) (meant : A → B) (means : IsMeant G trees S meant) where
+  -- what was read to the end, by the limits that were passed
+  limits_tell : (line : List ℕ) (x : A) (y : B) → G (items_of line) x → S x y → (short nodes depth : Bool) → has_short_tokens line ≡ short → excess_of (trees x) ≡ record { nodes = nodes; depth = depth }
+      → ReadsText G trees meant line (within_limits short y (record { nodes = nodes; depth = depth }))
+  limits_tell line x y g s false nodes depth h e = (x, g, h)
+  limits_tell line x y g s true true depth h e = (x, g, (h, ap (λ k. k.nodes) e))
+  limits_tell line x y g s true false true h e = (x, g, (h, ap (λ k. k.nodes) e, ap (λ k. k.depth) e))
+  limits_tell line x y g s true false false h e = (x, g, h, e, means (items_of line) x y (line_kept line h) g e s)
+
+  read_to_end : (line : List ℕ) (x : A) (y : B) (e : Excess) → G (items_of line) x → Raising S trees no_excess e x y → ReadsText G trees meant line (within_limits (has_short_tokens line) y e)
+  read_to_end line x y e g r = limits_tell line x y g r.0 (has_short_tokens line) e.nodes e.depth refl (sym (raised-none (trees x)) ∙ sym r.1)
+
+  refused_at : (line : List ℕ) (left : ℕ) → Refused G (items_of line) (length (items_of line) - left) → ReadsText G trees meant line (Err (fault.Syntax (column (tokens line) (length (tokens line) - left))))
+  refused_at line left r = (length (items_of line) - left, r, ap (λ n. column (tokens line) (n - left)) (sym (same_length line)))
+
+  module _ (p : List Lexeme → Out A) (P : Exact p G End) where
+    by_left : (line : List ℕ) (y : B) (rest : List Lexeme) (e : Excess) → Read (Raising S trees no_excess e) (p (items_of line)) y rest → (none : Bool) → (length rest == 0) ≡ none
+        → ReadsText G trees meant line (if none then within_limits (has_short_tokens line) y e else Err (fault.Syntax (column (tokens line) (length (tokens line) - length rest))))
+    by_left line y rest e read true i =
+        let w = read_whole p G P (Raising S trees no_excess e) (items_of line) rest y read (eqb-true _ _ i) in
+        read_to_end line w.0 y e w.1 w.2
+    by_left line y rest e read false i =
+        refused_at line (length rest) (left_over p G P (Raising S trees no_excess e) (items_of line) rest y (length (items_of line) - length rest) read (λ z. no (length rest) z i) refl)
+      where
+        no : (n : ℕ) → n ≡ 0 → (n == 0) ≡ false → ⊥
+        no n z f = let q : true ≡ false = sym (ap (λ k. k == 0) z) ∙ f in cc
+
+    -- what is answered of a text
+    pub reads_text : (line : List ℕ) (ts : List Lexeme) (result : Result B PartFault) (rest : List Lexeme) (before e : Excess) (left : ℕ) → ts ≡ items_of line → before ≡ no_excess
+        → Gives (Raising S trees before e) (p ts) result rest → left ≡ length rest → ReadsText G trees meant line (answer line result left e)
+    reads_text line ts (Ok y) rest before e left i b g l =
+        let start : Read (Raising S trees no_excess e) (p (items_of line)) y rest =
+        subst (λ (k : Excess). Read (Raising S trees k e) (p (items_of line)) y rest) b (subst (λ (l : List Lexeme). Read (Raising S trees before e) (p l) y rest) i g) in
+        subst (λ (n : ℕ). ReadsText G trees meant line (answer line (Ok y) n e)) (sym l) (by_left line y rest e start (length rest == 0) refl)
+    reads_text line ts (Err part.Mismatch) rest before e left i b g l =
+        subst (λ (n : ℕ). ReadsText G trees meant line (answer line (Err part.Mismatch) n e)) (sym l)
+        (refused_at line (length rest) (left_off p G P (items_of line) rest (length (items_of line) - length rest) (ap p (sym i) ∙ g) refl))
+    reads_text line ts (Err part.NoMemory) rest before e left i b g l = tt

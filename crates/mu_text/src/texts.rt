@@ -1,0 +1,211 @@
+ghost use Rattle.std.specs.Prelude.{◌≡◌, ◌≤◌, ◌<◌, ◌-◌, ◌+◌, ◌^◌, length};
+ghost use Rattle.std.specs.List.{list_all};
+ghost use Rattle.mu_text.specs.Reading.{text_of};
+ghost use Rattle.mu_text.specs.Tokens.{tokens as tokens_of};
+ghost use Rattle.mu_text.specs.Excesses.{one_tree};
+ghost use Rattle.mu_text.specs.Writings.{tree_of};
+ghost use Rattle.mu_text.specs.Trees.{OneTree};
+ghost use Rattle.mu_text.specs.Claims.{IsClaim, claim_of, trees_in_claim};
+ghost use Rattle.mu_text.specs.Reasons.{IsReason, trees_in_reason, why_of};
+ghost use Rattle.mu_text.specs.Texts.{AreWithin, ReadsText, answer as answer_of, column as column_of, column_behind, is_short_token, segments_of, within_limits};
+
+use crate::excess::Excess;
+use crate::fault::PartFault;
+use crate::parts;
+use crate::reader::Reader;
+use crate::token::{Token, TokenSort, text};
+use crate::tokens::Tokens;
+use mu_tree::{Claim, LimitWord, NoMemory, Tree, Why, is_short};
+use std::alloc::Global;
+
+/// Why a text is not read.
+#[derive(Clone, Copy, Debug, PartialEq, Eq)]
+pub enum TextFault {
+    /// The column, from 1, of the first token with which no spelling goes on; where the tokens end before some spelling does,
+    /// the one behind the last token.
+    Syntax(u32),
+    /// The first limit that the text passes.
+    Limit(LimitWord),
+    /// Memory ran out.
+    NoMemory,
+}
+
+impl From<NoMemory> for TextFault {
+    ghost use Rattle.std.specs.Prelude.{◌≡◌};
+    ghost use Rattle.mu_text.specs.declared.texts.TextFault.TheVariants.{NoMemory};
+
+    ghost from_gives = { λ _ fault. fault ≡ NoMemory };
+
+    fn from(_error: NoMemory) -> TextFault {
+        TextFault::NoMemory
+    }
+}
+
+/// Whether no segment of the tokens has more bytes than a name may have.
+pub fn are_short(line: &[u8], tokens: &[Token]) -> bool
+    ensures { result ≡ list_all (is_short_token line.now) tokens.now }
+{
+    tokens.iter().all(|token| is_short(segments(line, *token)))
+}
+
+// the part of a token's bytes that is made of segments
+fn segments<'a>(line: &'a [u8], token: Token) -> &'a [u8]
+    ensures { result.now ≡ segments_of token.sort (text_of line.now token) }
+{
+    let text = text(line, token);
+    match token.sort {
+        TokenSort::Meta => match text {
+            [] => text,
+            [_, segment @ ..] => segment,
+        },
+        _ => text,
+    }
+}
+
+/// The column of the token at a place, counted from 1, or the one behind the last token.
+pub fn column(line: &[u8], tokens: &[Token], at: usize) -> u32
+    requires within { AreWithin line.now tokens.now }
+    requires short { length line.now < 2 ^ 31 }
+    ensures { result ≡ column_of tokens.now at }
+{
+    match tokens.get(at) {
+        Some(token) => (token.from + 1) as u32,
+        None => behind(line, tokens),
+    }
+}
+
+fn behind(line: &[u8], tokens: &[Token]) -> u32
+    requires within { AreWithin line.now tokens.now }
+    requires short { length line.now < 2 ^ 31 }
+    ensures { result ≡ column_behind tokens.now }
+{
+    match tokens.last() {
+        Some(token) => (token.to + 1) as u32,
+        None => 1,
+    }
+}
+
+// what is answered of a value that was read to the end
+fn limited<T: Drop>(short: bool, value: T, excess: Excess) -> Result<T, TextFault>
+    ensures { result ≡ within_limits short value excess }
+{
+    if !short {
+        return Err(TextFault::Limit(LimitWord::Name));
+    }
+    if excess.nodes {
+        return Err(TextFault::Limit(LimitWord::Nodes));
+    }
+    if excess.depth {
+        return Err(TextFault::Limit(LimitWord::Depth));
+    }
+    Ok(value)
+}
+
+// what is answered where that many tokens are left
+fn answer<T: Drop>(
+    line: &[u8],
+    tokens: &[Token],
+    read: Result<T, PartFault>,
+    left: usize,
+    excess: Excess,
+) -> Result<T, TextFault>
+    requires whole { tokens.now ≡ tokens_of line.now }
+    requires within { AreWithin line.now tokens.now }
+    requires short { length line.now < 2 ^ 31 }
+    ensures { result ≡ answer_of line.now read left excess }
+{
+    match read {
+        Ok(value) => {
+            if left == 0 {
+                return limited(are_short(line, tokens), value, excess);
+            }
+            Err(TextFault::Syntax(column(line, tokens, tokens.len().saturating_sub(left))))
+        }
+        Err(PartFault::Mismatch) => Err(TextFault::Syntax(column(
+            line,
+            tokens,
+            tokens.len().saturating_sub(left),
+        ))),
+        Err(PartFault::NoMemory) => Err(TextFault::NoMemory),
+    }
+}
+
+/// Reads a text as a tree.
+///
+/// # Errors
+///
+/// `Syntax` where no tree is spelled so, else `Limit` where one passes a limit. `NoMemory`.
+#[tactic(auto, using(crate::proofs::Lines::all_within))]
+pub fn read_tree(alloc: Global, text: &[u8]) -> Result<Tree, TextFault>
+    requires { length text.now < 2 ^ 31 }
+    ensures { ReadsText OneTree one_tree tree_of text.now result }
+{
+    let tokens = Tokens::read(alloc, text)?;
+    let mut reader = Reader::new(text, tokens.items());
+    let mut excess = Excess::none();
+    let read = parts::tree(alloc, &mut reader, &mut excess);
+    answer(text, tokens.items(), read, reader.len(), excess)
+}
+
+/// Reads a text as a claim.
+///
+/// # Errors
+///
+/// `Syntax` where no claim is spelled so, else `Limit` where one passes a limit. `NoMemory`.
+#[tactic(auto, using(crate::proofs::Lines::all_within))]
+pub fn read_claim(alloc: Global, text: &[u8]) -> Result<Claim, TextFault>
+    requires { length text.now < 2 ^ 31 }
+    ensures { ReadsText IsClaim trees_in_claim claim_of text.now result }
+{
+    let tokens = Tokens::read(alloc, text)?;
+    let mut reader = Reader::new(text, tokens.items());
+    let mut excess = Excess::none();
+    let read = parts::claim(alloc, &mut reader, &mut excess);
+    answer(text, tokens.items(), read, reader.len(), excess)
+}
+
+/// Reads a text as what a line of a proof holds by.
+///
+/// # Errors
+///
+/// `Syntax` where no reason is spelled so, else `Limit` where one passes a limit. `NoMemory`.
+#[tactic(auto, using(crate::proofs::Lines::all_within))]
+pub fn read_why(alloc: Global, text: &[u8]) -> Result<Why, TextFault>
+    requires { length text.now < 2 ^ 31 }
+    ensures { ReadsText IsReason trees_in_reason why_of text.now result }
+{
+    let tokens = Tokens::read(alloc, text)?;
+    let mut reader = Reader::new(text, tokens.items());
+    let mut excess = Excess::none();
+    let read = parts::reason(alloc, &mut reader, &mut excess);
+    answer(text, tokens.items(), read, reader.len(), excess)
+}
+
+#[cfg(test)]
+mod tests {
+    use super::*;
+    use std::test::Fail;
+
+    #[test]
+    fn reads_texts(rt: HostRuntime) -> Result<(), Fail> {
+        let alloc = rt.alloc();
+        let tree = read_tree(alloc, b"forall{x:T. not p(x) => (?m[x] = y)}")?;
+        assert_eq!(rt; tree.size(), 10);
+        assert_eq!(rt; tree.depth(), 5);
+        assert_eq!(rt;
+            read_tree(alloc, b"p and").err(),
+            Some(TextFault::Syntax(6))
+        );
+        let claim = read_claim(alloc, b"p; q |- p and q")?;
+        assert_eq!(rt; claim.hyps.len(), 2);
+        assert_eq!(rt; claim.conclusion.size(), 3);
+        match read_why(alloc, b"rule r from l, #2 with ?m[x, y] := x or y; ?n := p")? {
+            Why::Rule { refs, inst, .. } => {
+                assert_eq!(rt; (refs.len(), inst.len()), (2, 2));
+                assert_eq!(rt; inst.items()[0].params.len(), 2);
+            }
+            _ => assert!(rt; false),
+        }
+        Ok(())
+    }
+}
