@@ -13,7 +13,7 @@ use Rattle.mu_text.specs.declared.way.Opening.TheVariants as opens
 use Rattle.mu_text.specs.declared.way.Ending.{Ending}
 use Rattle.mu_text.specs.declared.way.Ending.TheVariants as ends
 use Rattle.mu_text.specs.Lexemes.{Lexeme, word, mark, sort_of, bytes_of}
-use Rattle.mu_text.specs.Ops.{binary, prefix_level, atom_level}
+use Rattle.mu_text.specs.Ops.{binary, prefix_level}
 use Rattle.mu_text.specs.Parts.{Out, found, stopped}
 use Rattle.mu_text.specs.Writings.{Writing, Writings, leaf, apply, bind, paren, neg, bin, one, more, level}
 
