@@ -16,8 +16,8 @@ use Rattle.mu_text.proofs.Excesses.{raised-append}
 use Rattle.mu_command.specs.declared.command.Command.{Command}
 use Rattle.mu_command.specs.declared.forms.Form.{Form}
 use Rattle.mu_command.specs.Forms.{form_of, numbered, read_form}
-use Rattle.mu_command.specs.Parts.{Part, tree, claim, reason, Value, Meant, read_part, trees_in, StandsPart}
-use Rattle.mu_command.specs.Grammar.{GivesCommand, GivesForm, StandsForm, make, read_command, read_parts, row, trees_of}
+use Rattle.mu_command.specs.Parts.{Part, Value, Meant, read_part, trees_in, StandsPart}
+use Rattle.mu_command.specs.Grammar.{GivesCommand, GivesForm, StandsCommand, StandsForm, make, read_command, read_parts, row, trees_of}
 
 -- a command is read by its word and then by the parts of its form
 after_word : (form : Form) (ts mid : List Lexeme) → Read Same (read_form ts) form mid → read_command ts ≡ (read_parts form mid >>= (λ v rest. found (form, v) rest))
@@ -26,21 +26,21 @@ after_word form ts mid head =
     ap (λ o. o >>= (λ f behind. read_parts f behind >>= (λ v rest. found (f, v) rest))) (head.is ∙ ap (λ f. found f mid) (sym head.stands))
 
 -- what the parts of a form give is what the command gives
-pub form_then : (form : Form) (before now : Excess) (ts mid rest : List Lexeme) (answer : Result Command PartFault) → Read Same (read_form ts) form mid → GivesForm form before now mid answer rest
-    → GivesCommand before now ts answer rest
-form_then form before now ts mid rest (Ok c) head parts = record {
+pub form_then : (form : Form) (start now : Excess) (ts mid rest : List Lexeme) (answer : Result Command PartFault) → Read Same (read_form ts) form mid → GivesForm form start now mid answer rest
+    → GivesCommand start now ts answer rest
+form_then form start now ts mid rest (Ok c) head parts = record {
   value = (form, parts.value);
   is = after_word form ts mid head ∙ ap (λ o. o >>= (λ v left. found (form, v) left)) parts.is;
   stands = parts.stands;
 }
-form_then form before now ts mid rest (Err Mismatch) head parts = after_word form ts mid head ∙ ap (λ o. o >>= (λ v left. found (form, v) left)) parts
-form_then form before now ts mid rest (Err NoMemory) head parts = tt
+form_then form start now ts mid rest (Err Mismatch) head parts = after_word form ts mid head ∙ ap (λ o. o >>= (λ v left. found (form, v) left)) parts
+form_then form start now ts mid rest (Err NoMemory) head parts = tt
 
 -- where no form is told, no command goes on
-pub form_stops : (before now : Excess) (ts rest : List Lexeme) (fault : PartFault) → Gives Same (read_form ts) (Err fault) rest → GivesCommand before now ts (Err fault) rest
+pub form_stops : (ts rest : List Lexeme) (fault : PartFault) → Gives Same (read_form ts) (Err fault) rest → Gives StandsCommand (read_command ts) (Err fault) rest
 unfolding read_command
-form_stops before now ts rest Mismatch stops = ap (λ o. o >>= (λ f behind. read_parts f behind >>= (λ v left. found (f, v) left))) stops
-form_stops before now ts rest NoMemory stops = tt
+form_stops ts rest Mismatch stops = ap (λ o. o >>= (λ f behind. read_parts f behind >>= (λ v left. found (f, v) left))) stops
+form_stops ts rest NoMemory stops = tt
 
 -- a form without trees raises no limit
 abbrev HasNoTrees : Form → Type 0
@@ -56,31 +56,29 @@ pub form_alone : (form : Form) → HasNoTrees form → (e : Excess) (ts mid rest
     → Gives (StandsForm form) (read_parts form mid) answer rest → GivesCommand e e ts answer rest
 form_alone form none e ts mid rest answer head parts = form_then form e e ts mid rest answer head (raises_none form none e mid rest answer parts)
 
--- values of some parts, and the limits that their trees pass
-abbrev RaisesRow : (parts : List Part) → Excess → Excess → Values Value parts → Values Meant parts → Type 0
-RaisesRow parts before now = Raising (StandsRow Value Meant StandsPart parts) (trees_of parts) before now
-
-abbrev pub ReadsRow : (parts : List Part) → Excess → Excess → List Lexeme → Values Meant parts → List Lexeme → Type 0
-ReadsRow parts before now ts k rest = Read (RaisesRow parts before now) (read_row Value read_part parts ts) k rest
+-- some parts are read, for which these values stand, and the limits that their trees pass are raised
+pub record ReadsRow (parts : List Part) (start now : Excess) (ts : List Lexeme) (k : Values Meant parts) (rest : List Lexeme) : Type 0 where
+  pub value : Values Value parts
+  pub is : read_row Value read_part parts ts ≡ found value rest
+  pub stands : StandsRow Value Meant StandsPart parts value k
+  pub raises : now ≡ raised (trees_of parts value) start
 
 -- the end of a row
 pub ends : {e : Excess} {ts : List Lexeme} → ReadsRow [] e e ts tt ts
 unfolding read_row
-ends = record { value = tt; is = refl; stands = (tt, refl) }
+ends = record { value = tt; is = refl; stands = tt; raises = refl }
 
 -- a part with trees, and then the rest of the row
-pub raising : (part : Part) {parts : List Part} {before mid now : Excess} {ts behind rest : List Lexeme} {y : Meant part} {k : Values Meant parts}
-    → Read (Raising (StandsPart part) (trees_in part) before mid) (read_part part ts) y behind → ReadsRow parts mid now behind k rest → ReadsRow (part ∷ parts) before now ts (y, k) rest
+pub raising : (part : Part) {parts : List Part} {start mid now : Excess} {ts behind rest : List Lexeme} {y : Meant part} {k : Values Meant parts}
+    → Read (Raising (StandsPart part) (trees_in part) start mid) (read_part part ts) y behind → ReadsRow parts mid now behind k rest → ReadsRow (part ∷ parts) start now ts (y, k) rest
 unfolding read_row
-raising part {parts} {before} {mid} {now} {ts} {behind} {rest} {y} {k} first next = record {
+raising part {parts} {start} {mid} {now} {ts} {behind} {rest} {y} {k} first next = record {
   value = (first.value, next.value);
   is =
       ap (λ out. out >>= (λ x l. read_row Value read_part parts l >>= (λ xs left. found (x, xs) left))) first.is
       ∙ ap (λ out. out >>= (λ xs left. found (first.value, xs) left)) next.is;
-  stands = (
-    (first.stands.0, next.stands.0),
-    next.stands.1 ∙ (ap (raised (trees_of parts next.value)) first.stands.1 ∙ sym (raised-append (trees_in part first.value) (trees_of parts next.value) before)),
-  );
+  stands = (first.stands.0, next.stands);
+  raises = next.raises ∙ (ap (raised (trees_of parts next.value)) first.stands.1 ∙ sym (raised-append (trees_in part first.value) (trees_of parts next.value) start));
 }
 
 -- the part has no trees
@@ -88,15 +86,15 @@ abbrev IsSilent : Part → Type 0
 IsSilent part = (v : Value part) → trees_in part v ≡ []
 
 -- a part without trees, and then the rest of the row
-pub silent : (part : Part) → IsSilent part → {parts : List Part} {before now : Excess} {ts behind rest : List Lexeme} {y : Meant part} {k : Values Meant parts} → Read (StandsPart part) (read_part part ts) y behind
-    → ReadsRow parts before now behind k rest → ReadsRow (part ∷ parts) before now ts (y, k) rest
-silent part none {parts} {before} first next =
-    raising part (record { value = first.value; is = first.is; stands = (first.stands, sym (ap (λ ws. raised ws before) (none first.value))) }) next
+pub silent : (part : Part) → IsSilent part → {parts : List Part} {start now : Excess} {ts behind rest : List Lexeme} {y : Meant part} {k : Values Meant parts} → Read (StandsPart part) (read_part part ts) y behind
+    → ReadsRow parts start now behind k rest → ReadsRow (part ∷ parts) start now ts (y, k) rest
+silent part none {parts} {start} first next =
+    raising part (record { value = first.value; is = first.is; stands = (first.stands, sym (ap (λ ws. raised ws start) (none first.value))) }) next
 
 -- what is made of a whole row
-pub makes : (form : Form) {before now : Excess} {ts rest : List Lexeme} (k : Values Meant (row form)) (c : Command) → ReadsRow (row form) before now ts k rest → c ≡ make form k → GivesForm form before now ts (Ok c) rest
+pub makes : (form : Form) {start now : Excess} {ts rest : List Lexeme} (k : Values Meant (row form)) (c : Command) → ReadsRow (row form) start now ts k rest → c ≡ make form k → GivesForm form start now ts (Ok c) rest
 unfolding read_parts
-makes form k c row e = record { value = row.value; is = row.is; stands = ((k, row.stands.0, e), row.stands.1) }
+makes form k c row e = record { value = row.value; is = row.is; stands = ((k, row.stands, e), row.raises) }
 
 -- the form whose word the first token is, where this is a plain word
 pub plain_form : (ts : List Lexeme) → first_sort ts ≡ Some (sort.Word Plain) → first_as form_of ts ≡ option_and_then numbered (number_of (first_bytes ts) the_forms)

@@ -85,8 +85,8 @@ StandsCommand w c = StandsForm w.0 w.1 c
 
 -- what a call answers stands for what the parts of a form give, and the limits that its trees pass were raised
 abbrev pub GivesForm : (form : Form) → Excess → Excess → List Lexeme → Result Command PartFault → List Lexeme → Type 0
-GivesForm form before now ts answer rest = Gives (Raising (StandsForm form) (trees_of (row form)) before now) (read_parts form ts) answer rest
+GivesForm form start now ts answer rest = Gives (Raising (StandsForm form) (trees_of (row form)) start now) (read_parts form ts) answer rest
 
 -- what a call answers stands for what the command gives, and the limits that its trees pass were raised
 abbrev pub GivesCommand : Excess → Excess → List Lexeme → Result Command PartFault → List Lexeme → Type 0
-GivesCommand before now ts answer rest = Gives (Raising StandsCommand trees_of_command before now) (read_command ts) answer rest
+GivesCommand start now ts answer rest = Gives (Raising StandsCommand trees_of_command start now) (read_command ts) answer rest

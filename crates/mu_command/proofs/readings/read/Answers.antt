@@ -9,6 +9,6 @@ pub returns-then-len-eq0-clause-value : goal.returns-then-len-eq0-clause-value
 returns-then-len-eq0-clause-value c =
     let same : c.new-reader.result ≡ items_of c.args.line.now = search rules in
     let are : c.items-then-len-eq0.result.now ≡ tokens c.args.line.now = search rules in
-    let fresh : c.none.result ≡ no_excess = search rules in
+    let fresh : c.none-excess.result ≡ no_excess = search rules in
     let none : length c.read_command.new.reader ≡ 0 = search rules in
     read_value c.args.line.now c.in-Ok.command _ c.read_command.new.reader _ (rw (same, fresh) at c.in-Ok.ensures) none (rw are at c.within_limits.ensures)
