@@ -1,6 +1,6 @@
 -- The word of a form, and the parts that follow it.
 use Rattle.std.proofs.Common.{◌≡◌, ◌∙◌, ap, sym, refl}
-use Rattle.std.specs.Prelude.{List, [], ◌∷◌, ◌++◌, Option, Some, Result, Ok, Err, option_and_then}
+use Rattle.std.specs.Prelude.{List, [], ◌∷◌, Some, Result, Ok, Err, option_and_then}
 use Rattle.mu_tables.specs.Words.{number_of}
 use Rattle.mu_tables.specs.Tables.{the_forms}
 use Rattle.mu_text.specs.declared.excess.Excess.{Excess}
@@ -9,7 +9,7 @@ use Rattle.mu_text.specs.declared.fault.PartFault.TheVariants.{Mismatch, NoMemor
 use Rattle.mu_text.specs.declared.symbol.Sort.TheVariants as sort
 use Rattle.mu_text.specs.declared.symbol.Word.TheVariants.{Plain, Dotted, True, Meta, Place}
 use Rattle.mu_text.specs.Lexemes.{Lexeme, word, mark, first_sort, first_bytes}
-use Rattle.mu_text.specs.Parts.{Out, found, ◌>>=◌, Read, Gives, Same, first_as}
+use Rattle.mu_text.specs.Parts.{found, ◌>>=◌, Read, Gives, Same, first_as}
 use Rattle.mu_text.specs.Rows.{Values, read_row, StandsRow}
 use Rattle.mu_text.specs.Excesses.{Raising, raised}
 use Rattle.mu_text.proofs.Excesses.{raised-append}

@@ -2,6 +2,7 @@ use Rattle.std.proofs.Common.{rules, ◌≡◌, length}
 use Rattle.mu_text.specs.Excesses.{no_excess}
 use Rattle.mu_text.specs.Lexemes.{items_of}
 use Rattle.mu_text.specs.Tokens.{tokens}
+use Rattle.mu_command.specs.Readings.{first_limit, has_short_tokens}
 use Rattle.mu_command.proofs.Lines.{read_value}
 use Rattle.mu_command.proofs.readings.read.Goals as goal
 
@@ -11,4 +12,6 @@ returns-then-len-eq0-clause-value c =
     let are : c.items-then-len-eq0.result.now ≡ tokens c.args.line.now = search rules in
     let fresh : c.none-excess.result ≡ no_excess = search rules in
     let none : length c.read_command.new.reader ≡ 0 = search rules in
-    read_value c.args.line.now c.in-Ok.command _ c.read_command.new.reader _ (rw (same, fresh) at c.in-Ok.ensures) none (rw are at c.within_limits.ensures)
+    let short : c.are_short.result ≡ has_short_tokens c.args.line.now = rw are at c.are_short.ensures in
+    let passed : c.first_limit-passed.result ≡ first_limit (has_short_tokens c.args.line.now) c.read_command.new.excess = rw short at c.first_limit-passed.ensures in
+    read_value c.args.line.now c.in-Ok.command _ c.read_command.new.reader _ (rw (same, fresh) at c.in-Ok.ensures) none (rw passed at c.within_limits.ensures)
