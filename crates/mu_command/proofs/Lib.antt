@@ -1,4 +1,3 @@
-pub mod Columns
 pub mod Exact
 pub mod FormLemmas
 pub mod Lines

@@ -12,7 +12,8 @@ use Rattle.mu_command.specs.declared.command.Command.{Command}
 use Rattle.mu_command.specs.declared.readings.Reading.TheVariants as reading
 use Rattle.mu_text.specs.Excesses.{excess_of}
 use Rattle.mu_command.specs.Grammar.{Written, command_of, trees_of_command, read_command}
-use Rattle.mu_command.specs.Readings.{segments_of, has_short_tokens, first_limit, within_limits, read_as, reading_of}
+use Rattle.mu_text.specs.Texts.{segments_of, has_short_tokens}
+use Rattle.mu_command.specs.Readings.{first_limit, within_limits, read_as, reading_of}
 
 is_short_lexeme : BareToken → Bool
 is_short_lexeme x = is_short (segments_of x.0 x.1)

@@ -1,48 +1,17 @@
 -- What a line reads as.
-use Rattle.std.specs.Prelude.{◌≡◌, ℕ, ◌+◌, ◌-◌, ◌<◌, ◌≤◌, Bool, if◌then◌else◌, List, [], ◌∷◌, length, drop, slice_get, Option, Some, None}
-use Rattle.std.specs.Option.{option_map_or}
-use Rattle.std.specs.List.{list_all, All}
-use Rattle.mu_tree.specs.Names.{is_short}
+use Rattle.std.specs.Prelude.{◌≡◌, ℕ, ◌-◌, Bool, if◌then◌else◌, List, [], ◌∷◌, length, Option, Some, None}
 use Rattle.mu_tree.specs.declared.refusal.LimitWord.{LimitWord}
 use Rattle.mu_tree.specs.declared.refusal.LimitWord.TheVariants as limit
-use Rattle.mu_text.specs.declared.token.Token.{Token}
-use Rattle.mu_text.specs.declared.token.TokenSort.{TokenSort}
-use Rattle.mu_text.specs.declared.token.TokenSort.TheVariants.{Meta}
-use Rattle.mu_text.specs.Reading.{text_of}
 use Rattle.mu_text.specs.Tokens.{tokens}
 use Rattle.mu_text.specs.Lexemes.{items_of}
 use Rattle.mu_text.specs.Parts.{Out, found, stopped, Refused}
 use Rattle.mu_text.specs.declared.excess.Excess.{Excess}
 use Rattle.mu_text.specs.Excesses.{excess_of}
+use Rattle.mu_text.specs.Texts.{has_short_tokens, column}
 use Rattle.mu_command.specs.declared.command.Command.{Command}
 use Rattle.mu_command.specs.declared.readings.Reading.{Reading}
 use Rattle.mu_command.specs.declared.readings.Reading.TheVariants as reading
 use Rattle.mu_command.specs.Grammar.{Written, Spells, command_of, trees_of_command, read_command}
-
--- the part of a token's bytes that is made of segments
-abbrev pub segments_of : TokenSort → List ℕ → List ℕ
-segments_of Meta text = drop 1 text
-segments_of _ text = text
-
--- no segment of the token has more than 64 bytes
-abbrev pub is_short_token : List ℕ → Token → Bool
-is_short_token line token = is_short (segments_of token.sort (text_of line token))
-
--- no segment of the line's tokens has more than 64 bytes
-abbrev pub has_short_tokens : List ℕ → Bool
-has_short_tokens line = list_all (is_short_token line) (tokens line)
-
--- the bytes of each token are in the line
-abbrev pub AreWithin : List ℕ → List Token → Type 0
-AreWithin line ts = All (λ token. (token.from < length line) × (token.to ≤ length line)) ts
-
--- the column behind the last token, counted from 1
-abbrev pub column_behind : List Token → ℕ
-column_behind ts = option_map_or (λ token. token.to + 1) (slice_get ts (length ts - 1)) 1
-
--- the column of the token at a place, or behind the last one
-abbrev pub column : List Token → ℕ → ℕ
-column ts at = option_map_or (λ token. token.from + 1) (slice_get ts at) (column_behind ts)
 
 -- the first limit that is passed, by whether the names are within theirs and by the limits that trees pass: names go before nodes, and these before depth
 abbrev pub first_limit : Bool → Excess → Option LimitWord

@@ -1,14 +1,12 @@
-ghost use Rattle.std.specs.Prelude.{◌≡◌, ◌-◌, length, IfOk};
-ghost use Rattle.std.specs.List.{list_all};
-ghost use Rattle.mu_text.specs.declared.token.Token.{Token};
-ghost use Rattle.mu_text.specs.Reading.{text_of};
+ghost use Rattle.std.specs.Prelude.{◌≡◌, ◌-◌, ◌<◌, ◌^◌, length, IfOk};
 ghost use Rattle.mu_command.specs.declared.readings.Reading.TheVariants as Reading;
-ghost use Rattle.mu_command.specs.Readings.{AreWithin, ReadingIsExact, column, column_behind, first_limit, is_short_token, reading_of, segments_of, within_limits};
+ghost use Rattle.mu_text.specs.Texts.{AreWithin, column};
+ghost use Rattle.mu_command.specs.Readings.{ReadingIsExact, first_limit, reading_of, within_limits};
 
 use crate::command::Command;
 use crate::grammar::read_command;
-use mu_text::{Excess, PartFault, Reader, Token, TokenSort, Tokens, text};
-use mu_tree::{LimitWord, NoMemory, is_short};
+use mu_text::{Excess, PartFault, Reader, Token, Tokens, are_short, column};
+use mu_tree::{LimitWord, NoMemory};
 use std::alloc::Global;
 
 /// What a line reads as.
@@ -20,7 +18,7 @@ pub enum Reading {
     Limit(LimitWord),
     /// No command. The column, from 1, is that of the first token with which no command goes on; where the tokens
     /// end before some command does, it is the one behind the last token.
-    Refused(usize),
+    Refused(u32),
 }
 
 /// Reads a line.
@@ -28,8 +26,9 @@ pub enum Reading {
 /// # Errors
 ///
 /// `NoMemory`, at any line.
-#[tactic(auto, using(crate::proofs::Lines::reading_is_exact, crate::proofs::Lines::read_value, crate::proofs::Lines::all_within), unfolding(crate::specs::Readings::reading_of))]
+#[tactic(auto, using(crate::proofs::Lines::reading_is_exact, crate::proofs::Lines::read_value, mu_text::proofs::Lines::all_within), unfolding(crate::specs::Readings::reading_of))]
 pub fn read(alloc: Global, line: &[u8]) -> Result<Reading, NoMemory>
+    requires { length line.now < 2 ^ 31 }
     ensures value { IfOk result (λ reading. reading ≡ reading_of line.now) }
     ensures law { ReadingIsExact }
 {
@@ -75,54 +74,13 @@ fn first_limit(short: bool, excess: Excess) -> Option<LimitWord>
     None
 }
 
-/// Whether no segment of the tokens has more bytes than a name may have.
-fn are_short(line: &[u8], tokens: &[Token]) -> bool
-    ensures { result ≡ list_all (is_short_token line.now) tokens.now }
-{
-    tokens.iter().all(|token| is_short(segments(line, *token)))
-}
-
-/// The part of a token's bytes that is made of segments.
-fn segments<'a>(line: &'a [u8], token: Token) -> &'a [u8]
-    ensures { result.now ≡ segments_of token.sort (text_of line.now token) }
-{
-    let text = text(line, token);
-    match token.sort {
-        TokenSort::Meta => match text {
-            [] => text,
-            [_, segment @ ..] => segment,
-        },
-        _ => text,
-    }
-}
-
 /// What a line reads as where that many of its tokens are left.
 fn refused(line: &[u8], tokens: &[Token], left: usize) -> Reading
-    requires { AreWithin line.now tokens.now }
+    requires within { AreWithin line.now tokens.now }
+    requires short { length line.now < 2 ^ 31 }
     ensures { result ≡ Reading.Refused (column tokens.now (length tokens.now - left)) }
 {
     Reading::Refused(column(line, tokens, tokens.len().saturating_sub(left)))
-}
-
-/// The column of the token at a place, or behind the last one.
-fn column(line: &[u8], tokens: &[Token], at: usize) -> usize
-    requires { AreWithin line.now tokens.now }
-    ensures { result ≡ column tokens.now at }
-{
-    match tokens.get(at) {
-        Some(token) => token.from + 1,
-        None => column_behind(line, tokens),
-    }
-}
-
-fn column_behind(line: &[u8], tokens: &[Token]) -> usize
-    requires { AreWithin line.now tokens.now }
-    ensures { result ≡ column_behind tokens.now }
-{
-    match tokens.last() {
-        Some(token) => token.to + 1,
-        None => 1,
-    }
 }
 
 #[cfg(test)]
@@ -131,17 +89,17 @@ mod tests {
     use std::test::Fail;
 
     /// The column at which a line is refused, 0 where it is a command, and the greatest number where that passes a limit.
-    fn column_of(alloc: Global, line: &[u8]) -> Result<usize, NoMemory> {
+    fn column_of(alloc: Global, line: &[u8]) -> Result<u32, NoMemory> {
         match read(alloc, line)? {
             Reading::Command(_) => Ok(0),
-            Reading::Limit(_) => Ok(usize::MAX),
+            Reading::Limit(_) => Ok(u32::MAX),
             Reading::Refused(column) => Ok(column),
         }
     }
 
     #[test]
     fn tells_the_column(rt: HostRuntime) -> Result<(), Fail> {
-        let lines: [(&[u8], usize); 8] = [
+        let lines: [(&[u8], u32); 8] = [
             (b"theory t", 0),
             (b"theory", 7),
             (b"theorem t", 1),

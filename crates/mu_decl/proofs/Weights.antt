@@ -1,8 +1,8 @@
 -- The equations of `weight`, one for each variant.
 use Rattle.std.proofs.Common.{◌≡◌, ℕ, ◌+◌, List, map, sum, ap, sym, ◌∙◌}
 use Rattle.mu_decl.specs.declared.bare.Bare.{Bare}
-use Rattle.mu_decl.specs.declared.bare.Bare.TheOpen.{Bare-F, Var, Index, App, Meta, Bind}
-use Rattle.mu_decl.specs.declared.bare.Bare.TheFolds.{fold-Bare, fold-roll-Bare}
+use Rattle.mu_decl.specs.declared.bare.Bare.TheOpen.{Var, Index, App, Meta, Bind}
+use Rattle.mu_decl.specs.declared.bare.Bare.TheFolds.{fold-roll-Bare}
 use Rattle.mu_decl.specs.declared.bare.Bare.TheVariants as bare
 use Rattle.mu_decl.specs.Weights.{weight, weight_step}
 

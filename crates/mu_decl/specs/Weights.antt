@@ -1,5 +1,5 @@
 -- How large nameless trees are.
-use Rattle.std.specs.Prelude.{ℕ, ◌+◌, ◌≤◌, ◌^◌, List, map, sum}
+use Rattle.std.specs.Prelude.{ℕ, ◌+◌, List, map, sum}
 use Rattle.mu_decl.specs.declared.bare.Bare.{Bare}
 use Rattle.mu_decl.specs.declared.bare.Bare.TheOpen.{Bare-F, Var, Index, App, Meta, Bind}
 use Rattle.mu_decl.specs.declared.bare.Bare.TheFolds.{fold-Bare}

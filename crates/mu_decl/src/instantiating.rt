@@ -5,10 +5,10 @@ ghost use Rattle.mu_decl.specs.Weights.{weight, weights};
 ghost use Rattle.mu_decl.specs.Laws.{VariablesStay, InstancesAreClosed, NothingIsCaptured};
 
 use crate::bare::{Bare, Bares};
-use crate::growing::{MOST_NODES, spend};
+use crate::growing::{MOST_NODES, application, binding, metavariable, place, spend, variable};
 use crate::opening::opened_within;
 use mu_tree::{Name, NoMemory};
-use sqlite_items::{Boxed, Items};
+use sqlite_items::Items;
 use std::alloc::Global;
 
 /// What stands for a metavariable: a body under as many binders as the metavariable has parameters.
@@ -66,7 +66,7 @@ pub fn instantiate_all(
 }
 
 #[cycle(replaced)]
-#[tactic(auto, using(crate::proofs::OpeningEquations::instantiated_equations, crate::proofs::Weights::weight_equations))]
+#[tactic(auto, using(crate::proofs::OpeningEquations::instantiated_equations))]
 fn replaced(
     alloc: Global,
     tree: &Bare,
@@ -78,22 +78,20 @@ fn replaced(
 {
     spend(room)?;
     match tree {
-        Bare::Var(name) => Ok(Bare::Var(name.copy(alloc)?)),
-        Bare::Index(index) => Ok(Bare::Index(*index)),
+        Bare::Var(name) => variable(alloc, name),
+        Bare::Index(index) => Ok(place(*index)),
         Bare::App(name, arguments) => {
-            let name = name.copy(alloc)?;
             let arguments = replaced_all(alloc, arguments.as_slice(), given, room)?;
-            Ok(Bare::App(name, arguments))
+            application(alloc, name, arguments)
         }
         Bare::Meta(name, arguments) => {
             let arguments = replaced_all(alloc, arguments.as_slice(), given, room)?;
             instance(alloc, name, arguments, given, room)
         }
         Bare::Bind(binder, domain, body) => {
-            let binder = binder.copy(alloc)?;
             let domain = replaced(alloc, domain.get(), given, room)?;
             let body = replaced(alloc, body.get(), given, room)?;
-            Ok(Bare::Bind(binder, Boxed::new(alloc, domain)?, Boxed::new(alloc, body)?))
+            binding(alloc, binder, domain, body)
         }
     }
 }
@@ -116,7 +114,6 @@ fn replaced_all(
 }
 
 // The nodes of the arguments were counted already, and one for the metavariable.
-#[tactic(auto, using(crate::proofs::Weights::weight_equations))]
 fn instance(
     alloc: Global,
     meta: &Name,
@@ -131,7 +128,7 @@ fn instance(
         Some(found) if found.count == arguments.len() => {
             opened_within(alloc, &found.body, &arguments, room)
         }
-        _ => Ok(Bare::Meta(meta.copy(alloc)?, arguments)),
+        _ => metavariable(alloc, meta, arguments),
     }
 }
 

@@ -5,9 +5,11 @@ ghost use Rattle.mu_decl.specs.Weights.{weight, weights};
 ghost use Rattle.mu_decl.specs.Laws.{OpeningEnters, ShiftedIsUntouched};
 
 use crate::bare::{Bare, Bares};
-use crate::growing::{MOST_LEVELS, MOST_NODES, fewer, spend};
+use crate::growing::{
+    MOST_LEVELS, MOST_NODES, application, binding, fewer, metavariable, place, spend, variable,
+};
 use mu_tree::NoMemory;
-use sqlite_items::{Boxed, Items};
+use sqlite_items::Items;
 use std::alloc::Global;
 
 pub(crate) fn added(left: u64, right: u64) -> Result<u64, NoMemory>
@@ -26,7 +28,7 @@ pub(crate) fn shifted(alloc: Global, tree: &Bare, by: u64) -> Result<Bare, NoMem
 
 // The loose indices raised by `by`, of a tree under `depth` binders.
 #[cycle(shift)]
-#[tactic(auto, using(crate::proofs::OpeningEquations::shift_equations, crate::proofs::Weights::weight_equations))]
+#[tactic(auto, using(crate::proofs::OpeningEquations::shift_equations))]
 fn shift_under(
     alloc: Global,
     tree: &Bare,
@@ -41,29 +43,26 @@ fn shift_under(
     let levels = fewer(levels)?;
     spend(room)?;
     match tree {
-        Bare::Var(name) => Ok(Bare::Var(name.copy(alloc)?)),
+        Bare::Var(name) => variable(alloc, name),
         Bare::Index(index) => {
             if *index < depth {
-                Ok(Bare::Index(*index))
+                Ok(place(*index))
             } else {
-                Ok(Bare::Index(added(*index, by)?))
+                Ok(place(added(*index, by)?))
             }
         }
         Bare::App(name, arguments) => {
-            let name = name.copy(alloc)?;
             let arguments = shift_all(alloc, arguments.as_slice(), by, depth, levels, room)?;
-            Ok(Bare::App(name, arguments))
+            application(alloc, name, arguments)
         }
         Bare::Meta(name, arguments) => {
-            let name = name.copy(alloc)?;
             let arguments = shift_all(alloc, arguments.as_slice(), by, depth, levels, room)?;
-            Ok(Bare::Meta(name, arguments))
+            metavariable(alloc, name, arguments)
         }
         Bare::Bind(binder, domain, body) => {
-            let binder = binder.copy(alloc)?;
             let domain = shift_under(alloc, domain.get(), by, depth, levels, room)?;
             let body = shift_under(alloc, body.get(), by, added(depth, 1)?, levels, room)?;
-            Ok(Bare::Bind(binder, Boxed::new(alloc, domain)?, Boxed::new(alloc, body)?))
+            binding(alloc, binder, domain, body)
         }
     }
 }
@@ -124,7 +123,7 @@ pub(crate) fn opened_within(
 }
 
 #[cycle(open)]
-#[tactic(auto, using(crate::proofs::OpeningEquations::open_equations, crate::proofs::Weights::weight_equations))]
+#[tactic(auto, using(crate::proofs::OpeningEquations::open_equations))]
 fn open_under(
     alloc: Global,
     tree: &Bare,
@@ -139,23 +138,20 @@ fn open_under(
     let levels = fewer(levels)?;
     spend(room)?;
     match tree {
-        Bare::Var(name) => Ok(Bare::Var(name.copy(alloc)?)),
+        Bare::Var(name) => variable(alloc, name),
         Bare::Index(index) => open_index(alloc, *index, by, depth, levels, room),
         Bare::App(name, arguments) => {
-            let name = name.copy(alloc)?;
             let arguments = open_all(alloc, arguments.as_slice(), by, depth, levels, room)?;
-            Ok(Bare::App(name, arguments))
+            application(alloc, name, arguments)
         }
         Bare::Meta(name, arguments) => {
-            let name = name.copy(alloc)?;
             let arguments = open_all(alloc, arguments.as_slice(), by, depth, levels, room)?;
-            Ok(Bare::Meta(name, arguments))
+            metavariable(alloc, name, arguments)
         }
         Bare::Bind(binder, domain, body) => {
-            let binder = binder.copy(alloc)?;
             let domain = open_under(alloc, domain.get(), by, depth, levels, room)?;
             let body = open_under(alloc, body.get(), by, added(depth, 1)?, levels, room)?;
-            Ok(Bare::Bind(binder, Boxed::new(alloc, domain)?, Boxed::new(alloc, body)?))
+            binding(alloc, binder, domain, body)
         }
     }
 }
@@ -180,7 +176,6 @@ fn open_all(
 }
 
 // The node of an index itself was counted already.
-#[tactic(auto, using(crate::proofs::Weights::weight_equations))]
 fn open_index(
     alloc: Global,
     index: u64,
@@ -193,11 +188,11 @@ fn open_index(
     ensures counted { IfOk result (λ bare. weight bare + room.new ≤ room.old + 1) }
 {
     if index < depth {
-        return Ok(Bare::Index(index));
+        return Ok(place(index));
     }
     match replacement(by.as_slice(), (index - depth) as usize) {
         Some(tree) => shift_under(alloc, tree, depth, 0, levels, room),
-        None => Ok(Bare::Index(index - by.len() as u64)),
+        None => Ok(place(index - by.len() as u64)),
     }
 }
 

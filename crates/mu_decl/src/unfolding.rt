@@ -4,11 +4,11 @@ ghost use Rattle.mu_decl.specs.Weights.{weight, weights};
 ghost use Rattle.mu_decl.specs.Unfolding.{unfolded, unfolded_application, delta_of};
 
 use crate::bare::{Bare, Bares};
-use crate::growing::{MOST_NODES, spend};
+use crate::growing::{MOST_NODES, application, binding, metavariable, place, spend, variable};
 use crate::nameless::enter;
 use crate::opening::opened_within;
 use mu_tree::{Definition, Name, Names, NoMemory};
-use sqlite_items::{Boxed, Items};
+use sqlite_items::Items;
 use std::alloc::Global;
 
 /// A definition as a rule of delta reduction: its body, under as many binders as the constant has parameters.
@@ -59,29 +59,27 @@ pub fn unfolded(alloc: Global, tree: &Bare, delta: &DeltaRule) -> Result<Bare, N
 }
 
 #[cycle(reduced)]
-#[tactic(auto, using(crate::proofs::UnfoldedEquations::unfolded_equations, crate::proofs::Weights::weight_equations))]
+#[tactic(auto, using(crate::proofs::UnfoldedEquations::unfolded_equations))]
 fn reduced(alloc: Global, tree: &Bare, delta: &DeltaRule, room: &mut u64) -> Result<Bare, NoMemory>
     ensures value { IfOk result (λ bare. bare ≡ unfolded delta.now tree.now) }
     ensures counted { IfOk result (λ bare. weight bare + room.new ≤ room.old) }
 {
     spend(room)?;
     match tree {
-        Bare::Var(name) => Ok(Bare::Var(name.copy(alloc)?)),
-        Bare::Index(index) => Ok(Bare::Index(*index)),
+        Bare::Var(name) => variable(alloc, name),
+        Bare::Index(index) => Ok(place(*index)),
         Bare::App(name, arguments) => {
             let arguments = reduced_all(alloc, arguments.as_slice(), delta, room)?;
-            application(alloc, name, arguments, delta, room)
+            reduct(alloc, name, arguments, delta, room)
         }
         Bare::Meta(name, arguments) => {
-            let name = name.copy(alloc)?;
             let arguments = reduced_all(alloc, arguments.as_slice(), delta, room)?;
-            Ok(Bare::Meta(name, arguments))
+            metavariable(alloc, name, arguments)
         }
         Bare::Bind(binder, domain, body) => {
-            let binder = binder.copy(alloc)?;
             let domain = reduced(alloc, domain.get(), delta, room)?;
             let body = reduced(alloc, body.get(), delta, room)?;
-            Ok(Bare::Bind(binder, Boxed::new(alloc, domain)?, Boxed::new(alloc, body)?))
+            binding(alloc, binder, domain, body)
         }
     }
 }
@@ -104,8 +102,7 @@ fn reduced_all(
 }
 
 // The nodes of the arguments were counted already, and one for the constant.
-#[tactic(auto, using(crate::proofs::Weights::weight_equations))]
-fn application(
+fn reduct(
     alloc: Global,
     name: &Name,
     arguments: Bares,
@@ -118,6 +115,6 @@ fn application(
     if *name == delta.constant && delta.count == arguments.len() {
         opened_within(alloc, &delta.body, &arguments, room)
     } else {
-        Ok(Bare::App(name.copy(alloc)?, arguments))
+        application(alloc, name, arguments)
     }
 }

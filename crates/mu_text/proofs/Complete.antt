@@ -1,7 +1,6 @@
 -- Whatever is written within the limits is read to its end.
-use Rattle.std.proofs.Common.{◌≡◌, ℕ, zero, suc, ◌+◌, ◌-◌, ◌<◌, ◌≤◌, List, [], ◌∷◌, ◌++◌, Option, Some, None, Bool, true, false, cond, ◌&&◌, ◌⊎◌, refl, ap, sym, ◌∙◌, subst, append_assoc, arith, inl, inr}
-use Rattle.std.specs.Prelude.{nat_le, if◌then◌else◌}
-use Rattle.std.proofs.lemmas.Grind.{common_steps}
+use Rattle.std.proofs.Common.{◌≡◌, ℕ, ◌+◌, ◌-◌, ◌<◌, ◌≤◌, List, [], ◌∷◌, ◌++◌, Option, Some, None, Bool, true, false, ◌⊎◌, refl, ap, ◌∙◌, subst, append_assoc, arith, inl, inr}
+use Rattle.std.specs.Prelude.{nat_le}
 use Rattle.std.proofs.lemmas.Bool.Decides.{nat_tests}
 use Rattle.mu_text.specs.declared.symbol.Word.{Word}
 use Rattle.mu_text.specs.declared.symbol.Word.TheVariants.{Plain, Dotted, True, Meta, Place}
@@ -12,11 +11,10 @@ use Rattle.mu_text.specs.declared.way.Opening.TheVariants as opens
 use Rattle.mu_text.specs.declared.way.Ending.TheVariants as ends
 use Rattle.mu_text.specs.declared.ops.Op.{Op}
 use Rattle.mu_text.specs.declared.ops.Side.TheVariants.{Neither, Left, Right}
-use Rattle.mu_text.specs.Lexemes.{Lexeme, word, mark, bytes_of}
+use Rattle.mu_text.specs.Lexemes.{Lexeme, word, mark}
 use Rattle.mu_text.specs.Ops.{row, binary, prefix_level, atom_level}
 use Rattle.mu_text.specs.Writings.{Writing, Writings, leaf, apply, bind, paren, neg, bin, one, more, level, tokens, tokens_of, Fits, FitsAll, is_head, is_binder, opener, closer}
-use Rattle.mu_text.specs.Parts.{Out, found, stopped}
-use Rattle.mu_text.specs.Machine.{Stack, top, right, negated, inside, given, domain, body, fill, Mode, want, named, binding, typing, have, Next, go, done, stop, open_levels, after, close, close_given, after_tree, beginning, opening, ending, begin, after_name, step, finish, ended, at_end, run}
+use Rattle.mu_text.specs.Machine.{Stack, right, negated, inside, given, domain, body, fill, Mode, want, named, binding, have, Next, go, open_levels, after, close, close_given, beginning, opening, ending, begin, after_name, step, run}
 
 -- what every row of the table keeps
 pub record Shape (p : Op) : Type 0 where

@@ -8,7 +8,6 @@ use Rattle.std.proofs.lemmas.List.Splits.{slice_split_none}
 use Rattle.std.proofs.lemmas.List.{length-map}
 use Rattle.std.proofs.lemmas.List.Elements.{All-from_recursion}
 use Rattle.mu_tree.specs.Names.{IsName, is_letter, is_name_byte, is_segment, is_name, is_short, segments}
-use Rattle.mu_tree.specs.declared.refusal.LimitWord.TheVariants as limit
 use Rattle.mu_text.specs.declared.symbol.Word.TheVariants as word
 use Rattle.mu_text.specs.declared.symbol.Sort.{Sort}
 use Rattle.mu_text.specs.declared.symbol.Sort.TheVariants as sort
@@ -22,13 +21,13 @@ use Rattle.mu_text.specs.declared.excess.Excess.{Excess}
 use Rattle.mu_text.specs.Reading.{text_of, is_meta}
 use Rattle.mu_text.specs.Tokens.{tokens}
 use Rattle.mu_text.specs.Lexemes.{Lexeme, item, items, items_of, item_of, sort_in, word_in}
-use Rattle.mu_text.specs.Parts.{Out, stopped, Read, Gives, Refused, End}
+use Rattle.mu_text.specs.Parts.{Out, Read, Gives, Refused, End}
 use Rattle.mu_text.specs.Writings.{Writing}
-use Rattle.mu_text.specs.Excesses.{excess_of, no_excess, raised, Raising}
+use Rattle.mu_text.specs.Excesses.{excess_of, no_excess, Raising}
 use Rattle.mu_text.specs.Limits.{WithinToken, WithinTokens, IsMeant}
 use Rattle.mu_text.specs.Texts.{segments_of, is_short_token, has_short_tokens, AreWithin, column, ReadsText, within_limits, answer}
 use Rattle.mu_text.proofs.Exact.{Exact}
-use Rattle.mu_text.proofs.Excesses.{raised-none, same_excess}
+use Rattle.mu_text.proofs.Excesses.{raised-none}
 use Rattle.mu_text.proofs.Facts.{IsTokenOf, tokens_hold}
 use Rattle.mu_text.proofs.Whole.{read_whole, left_over, left_off}
 

@@ -1,6 +1,6 @@
 -- One step of the machine, by the token that comes first.
-use Rattle.std.proofs.Common.{◌≡◌, ℕ, suc, ◌+◌, ◌-◌, ◌<◌, ◌≤◌, min, max, List, [], ◌∷◌, ◌++◌, length, Option, Some, None, Bool, true, false, ◌&&◌, cond, refl, ap, sym, ◌∙◌, subst, append_assoc, arith}
-use Rattle.std.specs.Prelude.{nat_le, if◌then◌else◌}
+use Rattle.std.proofs.Common.{◌≡◌, ℕ, ◌+◌, ◌-◌, ◌<◌, ◌≤◌, max, List, [], ◌∷◌, ◌++◌, length, Option, Some, None, Bool, true, false, ◌&&◌, refl, ap, sym, ◌∙◌, subst, append_assoc, arith}
+use Rattle.std.specs.Prelude.{nat_le}
 use Rattle.mu_tree.specs.Names.{IsName}
 use Rattle.mu_tree.specs.declared.trees.Tree.{Tree}
 use Rattle.mu_tree.specs.declared.trees.Tree.TheVariants as tree
@@ -15,16 +15,16 @@ use Rattle.mu_text.specs.declared.ops.Op.{Op}
 use Rattle.mu_text.specs.declared.operand.Operand.{Operand}
 use Rattle.mu_text.specs.declared.operand.Several.{Several}
 use Rattle.mu_text.specs.Lexemes.{Lexeme, word, mark, bytes_of, sort_of, first_sort, first_bytes, after_first}
-use Rattle.mu_text.specs.Ops.{binary, constant_of, operator_of, prefix_level, atom_level}
-use Rattle.mu_text.specs.Writings.{Writing, Writings, leaf, apply, bind, paren, neg, bin, one, more, level, made, nodes, nodes_of, deep, deep_of, Kept, KeptAll, Short, ShortAll, tree_of, trees_of}
+use Rattle.mu_text.specs.Ops.{binary, constant_of, prefix_level}
+use Rattle.mu_text.specs.Writings.{Writing, Writings, leaf, apply, bind, paren, neg, bin, one, more, level, made, nodes, nodes_of, deep, deep_of, Short, ShortAll, tree_of, trees_of}
 use Rattle.mu_text.specs.Parts.{stopped}
-use Rattle.mu_text.specs.Machine.{Stack, top, right, negated, inside, given, domain, body, fill, Mode, want, named, binding, typing, have, Next, go, stop, step, after, after_name, close, close_given, run, beginning, opening, ending, begin, beginning_of, opening_of, ending_of}
+use Rattle.mu_text.specs.Machine.{Stack, right, negated, inside, given, domain, body, fill, want, named, binding, typing, have, Next, stop, step, after, after_name, close, close_given, run, ending, begin, beginning_of, opening_of, ending_of}
 use Rattle.std.specs.Prelude.{Result, Ok, Err}
 use Rattle.mu_text.specs.declared.fault.PartFault.{PartFault}
 use Rattle.mu_text.specs.declared.fault.PartFault.TheVariants.{Mismatch, NoMemory}
 use Rattle.mu_text.specs.Reads.{capped, Stands, StandsAll, Built, Enclosing, Added, Goes, Gives, Ends, OperatorFirst, Reads, Stops, Expects, ExpectsVar}
-use Rattle.mu_text.proofs.Complete.{Shape, shape, run_go, run_same, opened, leb_yes, taken, name_run, named_run, arguments_run, binder_run, ends_run, goes_on_run}
-use Rattle.mu_text.proofs.Viable.{le_from, at_head, at_paren, at_not, at_opener, at_brace, at_ending, at_comma}
+use Rattle.mu_text.proofs.Complete.{run_go, run_same, opened, leb_yes, taken, arguments_run, binder_run, ends_run, goes_on_run}
+use Rattle.mu_text.proofs.Viable.{le_from, at_paren, at_not, at_comma}
 
 -- the writings before, the last one first
 abbrev pub back_nodes : List Writing → ℕ
@@ -52,10 +52,6 @@ pub record StandsBack (vs : List Writing) (o : Several) : Type 0 where
 pub first_is : (ts : List Lexeme) (T : Lexeme) → first_sort ts ≡ Some (sort_of T) → (S : Lexeme) × (ts ≡ S ∷ after_first ts) × (sort_of S ≡ sort_of T)
 first_is [] T e = cc
 first_is (S ∷ r) T e = (S, refl, cc)
-
-pub first_head : (ts : List Lexeme) (s : Word) → beginning_of (first_sort ts) ≡ begins.Head s → ts ≡ word s (first_bytes ts) ∷ after_first ts
-first_head [] s e = cc
-first_head (T ∷ r) s e = ap (λ S. S ∷ r) (at_head s T e).0
 
 pub first_paren : (ts : List Lexeme) → beginning_of (first_sort ts) ≡ begins.Paren → ts ≡ mark Open ∷ after_first ts
 first_paren [] e = cc
@@ -252,13 +248,6 @@ operation_grows n m o (S ∷ q) mid new a b r left name f h i z s j w u e kept c
       ∙ ends_right S o a w.writing n m (n - o.opens) k new (ends_level o.right b.level w.writing new w.stands.level_is u)));
 }
 
-pub operation_stops : (n m : ℕ) (o : Op) (old mid new : List Lexeme) (a : Writing) (left : Operand) → OperatorFirst old o → m ≤ o.level → o.left ≤ left.level → o.opens ≤ n → Stands a left → mid ≡ after_first old
-    → ((k : Stack) → run (want (n - o.opens) o.right k) mid ≡ stopped new) → (k : Stack) → run (have n m a k) old ≡ stopped new
-operation_stops n m o [] mid new a left f h i z s j w k = cc
-operation_stops n m o (S ∷ q) mid new a left f h i z s j w k =
-    run_go (have n m a k) S q (want (n - o.opens) o.right (right S o a n m k)) (rw f (taken n m a k S (close k a S) o h (let g : level a ≡ left.level = s.level_is in omega arith) z))
-    ∙ (ap (run (want (n - o.opens) o.right (right S o a n m k))) (sym j) ∙ w (right S o a n m k))
-
 -- reading may start where another mode leads to
 pub from_head : (n m : ℕ) (s : Word) (x : List ℕ) (old mid new : List Lexeme) (o : Operand) → beginning_of (first_sort old) ≡ begins.Head s → x ≡ first_bytes old → mid ≡ after_first old
     → Goes (named s x n m) (have n m) mid new o → Goes (want n m) (have n m) old new o
@@ -280,10 +269,6 @@ head_stops n m s x [] mid new e f j h k = cc
 head_stops n m s x (T ∷ r) mid new e f j h k =
     run_go (want n m k) T r (named s (bytes_of T) n m k) (ap (begin n m k (bytes_of T)) e) ∙ (ap (λ y. run (named s y n m k) r) (sym f) ∙ (ap (run (named s x n m k)) (sym j) ∙ h k))
 
-pub nothing_stops : (n m : ℕ) (old : List Lexeme) → beginning_of (first_sort old) ≡ begins.Nothing → (k : Stack) → run (want n m k) old ≡ stopped old
-nothing_stops n m [] e k = refl
-nothing_stops n m (T ∷ r) e k = rw (e, run) refl
-
 paren_goes : (n m : ℕ) (old mid : List Lexeme) (k : Stack) → 0 < n → beginning_of (first_sort old) ≡ begins.Paren → mid ≡ after_first old
     → run (want n m k) old ≡ run (want (n - 1) 0 (inside n m k)) mid
 paren_goes n m old mid k z e j =
@@ -297,10 +282,6 @@ in_parens n m old mid after new o p z e j w i f = record {
   stands = stands_paren w.writing o p w.stands f;
   goes = λ k. paren_goes n m old mid k z e j ∙ (w.goes (inside n m k) ∙ ap (run (have (n - 1) 0 w.writing (inside n m k))) i);
 }
-
-pub paren_stops : (n m : ℕ) (old mid new : List Lexeme) → 0 < n → beginning_of (first_sort old) ≡ begins.Paren → mid ≡ after_first old
-    → ((k : Stack) → run (want (n - 1) 0 k) mid ≡ stopped new) → (k : Stack) → run (want n m k) old ≡ stopped new
-paren_stops n m old mid new z e j h k = paren_goes n m old mid k z e j ∙ h (inside n m k)
 
 unwanted : (n' : ℕ) (w : Writing) (k : Stack) (T : Lexeme) (r : List Lexeme) → Ends 0 (level w) (T ∷ r) → close k w T ≡ stop → run (have n' 0 w k) (T ∷ r) ≡ stopped (T ∷ r)
 unwanted n' w k T r h e =
@@ -344,10 +325,6 @@ negation_goes n m old mid new o r name z h e j w u f c = record {
   stands = stands_neg w.writing o r name w.stands f c;
   goes = λ k. not_goes n m old mid k z h e j ∙ (w.goes (negated n m k) ∙ ends_negated w.writing n m (n - 1) k new (ends_level prefix_level o.level w.writing new w.stands.level_is u));
 }
-
-pub negation_stops : (n m : ℕ) (old mid new : List Lexeme) → 0 < n → m ≤ prefix_level → beginning_of (first_sort old) ≡ begins.Negation → mid ≡ after_first old
-    → ((k : Stack) → run (want (n - 1) prefix_level k) mid ≡ stopped new) → (k : Stack) → run (want n m k) old ≡ stopped new
-negation_stops n m old mid new z h e j w k = not_goes n m old mid k z h e j ∙ w (negated n m k)
 
 -- after the name of an atom
 name_free : (s : Word) (x : List ℕ) (n m : ℕ) (k : Stack) (old : List Lexeme) → opening_of s (first_sort old) ≡ opens.Nothing → run (named s x n m k) old ≡ run (have n m (leaf s x) k) old
@@ -438,19 +415,10 @@ no_colon s x v n m r0 r1 e h k =
     stops (mark Colon ∷ q) g = absurd (g q refl)
     stops (T ∷ q) g = refl
 
-pub no_domain : (s : Word) (x v : List ℕ) (n m : ℕ) (r0 r1 r2 new : List Lexeme) → r0 ≡ word Plain v ∷ r1 → r1 ≡ mark Colon ∷ r2
-    → ((k : Stack) → run (want (n - 1) 0 k) r2 ≡ stopped new) → (k : Stack) → run (binding s x n m k) r0 ≡ stopped new
-no_domain s x v n m r0 r1 r2 new e f h k = binder_front s x v n m r0 r1 r2 k e f ∙ h (domain s x v n m k)
-
 pub no_dot : (s : Word) (x v : List ℕ) (n m : ℕ) (r0 r1 r2 r3 : List Lexeme) (o : Operand) → r0 ≡ word Plain v ∷ r1 → r1 ≡ mark Colon ∷ r2
     → Goes (want (n - 1) 0) (have (n - 1) 0) r2 r3 o → Ends 0 o.level r3 → ((q : List Lexeme) → r3 ≡ mark Dot ∷ q → ⊥) → (k : Stack) → run (binding s x n m k) r0 ≡ stopped r3
 no_dot s x v n m r0 r1 r2 r3 o e f w u h k =
     binder_front s x v n m r0 r1 r2 k e f ∙ (w.goes (domain s x v n m k) ∙ domain_stops s x v n m (n - 1) w.writing k r3 (ends_level 0 o.level w.writing r3 w.stands.level_is u) h)
-
-pub no_body : (s : Word) (x v : List ℕ) (n m : ℕ) (r0 r1 r2 r3 r4 new : List Lexeme) (o : Operand) → r0 ≡ word Plain v ∷ r1 → r1 ≡ mark Colon ∷ r2
-    → Goes (want (n - 1) 0) (have (n - 1) 0) r2 r3 o → r3 ≡ mark Dot ∷ r4 → ((k : Stack) → run (want (n - 1) 0 k) r4 ≡ stopped new) → (k : Stack) → run (binding s x n m k) r0 ≡ stopped new
-no_body s x v n m r0 r1 r2 r3 r4 new o e f w g h k =
-    binder_front s x v n m r0 r1 r2 k e f ∙ (binder_middle s x v n m r2 r3 r4 o k w g ∙ h (body s x v w.writing n m k))
 
 pub no_brace : (s : Word) (x v : List ℕ) (n m : ℕ) (r0 r1 r2 r3 r4 r5 : List Lexeme) (o p : Operand) → r0 ≡ word Plain v ∷ r1 → r1 ≡ mark Colon ∷ r2
     → Goes (want (n - 1) 0) (have (n - 1) 0) r2 r3 o → r3 ≡ mark Dot ∷ r4 → Goes (want (n - 1) 0) (have (n - 1) 0) r4 r5 p → Ends 0 p.level r5 → ((q : List Lexeme) → r5 ≡ mark CloseBrace ∷ q → ⊥)

@@ -1,5 +1,5 @@
 -- A tree is read exactly.
-use Rattle.std.proofs.Common.{◌≡◌, ℕ, ◌≤◌, List, [], ◌∷◌, ◌++◌, Some, refl, ap, sym, ◌∙◌, arith}
+use Rattle.std.proofs.Common.{◌≡◌, ◌≤◌, List, [], ◌∷◌, ◌++◌, Some, refl, ap, sym, ◌∙◌, arith}
 use Rattle.std.specs.Prelude.{Result, Ok, Err}
 use Rattle.mu_text.specs.declared.symbol.Word.TheVariants.{Plain}
 use Rattle.mu_text.specs.declared.symbol.Mark.TheVariants.{Semicolon}
@@ -15,7 +15,7 @@ use Rattle.mu_text.specs.Writings.{Writing, level}
 use Rattle.mu_text.specs.Machine.{top, want, have, done, run}
 use Rattle.mu_text.specs.Reads.{ReadsTree, Goes, Ends, Stands}
 use Rattle.mu_text.specs.Trees.{OneTree, read_tree}
-use Rattle.mu_text.proofs.Complete.{MayFollow, FollowsAt, Follows, Shape, shape, follows-more, reads}
+use Rattle.mu_text.proofs.Complete.{MayFollow, Follows, Shape, shape, follows-more, reads}
 use Rattle.mu_text.proofs.Viable.{Answers, some, start, start_good, run_good, run_next}
 use Rattle.mu_text.proofs.Steps.{not_offered}
 use Rattle.mu_text.proofs.Exact.{Exact, Answered}

@@ -13,7 +13,7 @@ use Rattle.mu_text.specs.declared.way.Opening.TheVariants as opens
 use Rattle.mu_text.specs.declared.way.Ending.{Ending}
 use Rattle.mu_text.specs.declared.way.Ending.TheVariants as ends
 use Rattle.mu_text.specs.Lexemes.{Lexeme, word, mark, sort_of, bytes_of}
-use Rattle.mu_text.specs.Ops.{binary, prefix_level, atom_level}
+use Rattle.mu_text.specs.Ops.{binary, prefix_level}
 use Rattle.mu_text.specs.Parts.{Out, found, stopped}
 use Rattle.mu_text.specs.Writings.{Writing, Writings, leaf, apply, bind, paren, neg, bin, one, more, level}
 
@@ -85,13 +85,13 @@ pub data Next : Type 0 where
 
 -- some levels open, if they may
 abbrev pub open_levels : ℕ → ℕ → Mode → Next
-open_levels k n s = if nat_le k n then go s else stop
+open_levels i n mode = if nat_le i n then go mode else stop
 
 -- an operator after w, or what holds otherwise
 abbrev pub after : ℕ → ℕ → Writing → Stack → Lexeme → Next → Option Op → Next
-after n m w k T other None = other
-after n m w k T other (Some o) =
-    if nat_le m o.level && nat_le o.left (level w) then open_levels o.opens n (want (n - o.opens) o.right (right T o w n m k)) else other
+after n m w k item other None = other
+after n m w k item other (Some o) =
+    if nat_le m o.level && nat_le o.left (level w) then open_levels o.opens n (want (n - o.opens) o.right (right item o w n m k)) else other
 
 -- behind a tree in parentheses
 abbrev pub close_inside : ℕ → ℕ → Writing → Stack → Lexeme → Next
@@ -100,69 +100,69 @@ close_inside n m w k _ = stop
 
 -- behind an argument
 abbrev pub close_given : Word → List ℕ → List Writing → ℕ → ℕ → Writing → Stack → Ending → Next
-close_given s x vs n m w k ends.Closes = go (have n m (apply s x (fill vs (one w))) k)
-close_given s x vs n m w k ends.GoesOn = go (want (n - 1) 0 (given s x (w ∷ vs) n m k))
-close_given s x vs n m w k ends.Nothing = stop
+close_given head name vs n m w k ends.Closes = go (have n m (apply head name (fill vs (one w))) k)
+close_given head name vs n m w k ends.GoesOn = go (want (n - 1) 0 (given head name (w ∷ vs) n m k))
+close_given head name vs n m w k ends.Nothing = stop
 
 -- behind the domain of a binder
 abbrev pub close_domain : Word → List ℕ → List ℕ → ℕ → ℕ → Writing → Stack → Lexeme → Next
-close_domain s x v n m w k (mark Dot) = go (want (n - 1) 0 (body s x v w n m k))
-close_domain s x v n m w k _ = stop
+close_domain head name v n m w k (mark Dot) = go (want (n - 1) 0 (body head name v w n m k))
+close_domain head name v n m w k _ = stop
 
 -- behind the body of a binder
 abbrev pub close_body : Word → List ℕ → List ℕ → Writing → ℕ → ℕ → Writing → Stack → Lexeme → Next
-close_body s x v d n m w k (mark CloseBrace) = go (have n m (bind s x v d w) k)
-close_body s x v d n m w k _ = stop
+close_body head name v d n m w k (mark CloseBrace) = go (have n m (bind head name v d w) k)
+close_body head name v d n m w k _ = stop
 
 -- the token continues w nowhere, so w is handed to what waits for it
 abbrev pub close : Stack → Writing → Lexeme → Next
-close top w T = done w
-close (right S o a n m k) w T = after n m (bin S o a w) k T (close k (bin S o a w) T) (binary T)
-close (negated n m k) w T = after n m (neg w) k T (close k (neg w) T) (binary T)
-close (inside n m k) w T = close_inside n m w k T
-close (given s x vs n m k) w T = close_given s x vs n m w k (ending s T)
-close (domain s x v n m k) w T = close_domain s x v n m w k T
-close (body s x v d n m k) w T = close_body s x v d n m w k T
+close top w item = done w
+close (right sign o a n m k) w item = after n m (bin sign o a w) k item (close k (bin sign o a w) item) (binary item)
+close (negated n m k) w item = after n m (neg w) k item (close k (neg w) item) (binary item)
+close (inside n m k) w item = close_inside n m w k item
+close (given head name vs n m k) w item = close_given head name vs n m w k (ending head item)
+close (domain head name v n m k) w item = close_domain head name v n m w k item
+close (body head name v d n m k) w item = close_body head name v d n m w k item
 
 -- behind a tree
 abbrev pub after_tree : ℕ → ℕ → Writing → Stack → Lexeme → Next
-after_tree n m w k T = after n m w k T (close k w T) (binary T)
+after_tree n m w k item = after n m w k item (close k w item) (binary item)
 
 -- a tree is wanted
 abbrev pub begin : ℕ → ℕ → Stack → List ℕ → Beginning → Next
-begin n m k x (begins.Head s) = go (named s x n m k)
-begin n m k x begins.Paren = open_levels 1 n (want (n - 1) 0 (inside n m k))
-begin n m k x begins.Negation = if nat_le m prefix_level then open_levels 1 n (want (n - 1) prefix_level (negated n m k)) else stop
-begin n m k x begins.Nothing = stop
+begin n m k name (begins.Head head) = go (named head name n m k)
+begin n m k name begins.Paren = open_levels 1 n (want (n - 1) 0 (inside n m k))
+begin n m k name begins.Negation = if nat_le m prefix_level then open_levels 1 n (want (n - 1) prefix_level (negated n m k)) else stop
+begin n m k name begins.Nothing = stop
 
 -- behind a head
 abbrev pub after_name : Word → List ℕ → ℕ → ℕ → Stack → Lexeme → Opening → Next
-after_name s x n m k T opens.Arguments = open_levels 1 n (want (n - 1) 0 (given s x [] n m k))
-after_name s x n m k T opens.Binder = open_levels 1 n (binding s x n m k)
-after_name s x n m k T opens.Nothing = after_tree n m (leaf s x) k T
+after_name head name n m k item opens.Arguments = open_levels 1 n (want (n - 1) 0 (given head name [] n m k))
+after_name head name n m k item opens.Binder = open_levels 1 n (binding head name n m k)
+after_name head name n m k item opens.Nothing = after_tree n m (leaf head name) k item
 
 -- behind the brace of a binder
 abbrev pub bound : Word → List ℕ → ℕ → ℕ → Stack → Lexeme → Next
-bound s x n m k (word Plain v) = go (typing s x v n m k)
-bound s x n m k _ = stop
+bound head name n m k (word Plain v) = go (typing head name v n m k)
+bound head name n m k _ = stop
 
 -- behind the variable of a binder
 abbrev pub typed : Word → List ℕ → List ℕ → ℕ → ℕ → Stack → Lexeme → Next
-typed s x v n m k (mark Colon) = go (want (n - 1) 0 (domain s x v n m k))
-typed s x v n m k _ = stop
+typed head name v n m k (mark Colon) = go (want (n - 1) 0 (domain head name v n m k))
+typed head name v n m k _ = stop
 
 -- one token is taken in some mode
 abbrev pub step : Mode → Lexeme → Next
-step (want n m k) T = begin n m k (bytes_of T) (beginning T)
-step (named s x n m k) T = after_name s x n m k T (opening s T)
-step (binding s x n m k) T = bound s x n m k T
-step (typing s x v n m k) T = typed s x v n m k T
-step (have n m w k) T = after_tree n m w k T
+step (want n m k) item = begin n m k (bytes_of item) (beginning item)
+step (named head name n m k) item = after_name head name n m k item (opening head item)
+step (binding head name n m k) item = bound head name n m k item
+step (typing head name v n m k) item = typed head name v n m k item
+step (have n m w k) item = after_tree n m w k item
 
 -- the tokens end, and w is handed to what waits for it
 abbrev pub finish : Stack → Writing → Option Writing
 finish top w = Some w
-finish (right S o a n m k) w = finish k (bin S o a w)
+finish (right sign o a n m k) w = finish k (bin sign o a w)
 finish (negated n m k) w = finish k (neg w)
 finish _ w = None
 
@@ -174,12 +174,12 @@ ended None = stopped []
 -- the tokens end in some mode
 abbrev pub at_end : Mode → Out Writing
 at_end (want n m k) = stopped []
-at_end (named s x n m k) = ended (finish k (leaf s x))
-at_end (binding s x n m k) = stopped []
-at_end (typing s x v n m k) = stopped []
+at_end (named head name n m k) = ended (finish k (leaf head name))
+at_end (binding head name n m k) = stopped []
+at_end (typing head name v n m k) = stopped []
 at_end (have n m w k) = ended (finish k w)
 
 -- all tokens are taken, from some mode on
 abbrev pub run : Mode → List Lexeme → Out Writing
-run s [] = at_end s
-run s (T ∷ r) = elim (step s T) [ go next ↦ run next r | done w ↦ found w (T ∷ r) | stop ↦ stopped (T ∷ r) ]
+run mode [] = at_end mode
+run mode (item ∷ rest) = elim (step mode item) [ go next ↦ run next rest | done w ↦ found w (item ∷ rest) | stop ↦ stopped (item ∷ rest) ]

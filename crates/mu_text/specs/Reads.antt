@@ -1,5 +1,5 @@
 -- What a reader's call did, in terms of the machine, whatever waits for the tree.
-use Rattle.std.specs.Prelude.{◌≡◌, ℕ, ◌+◌, ◌-◌, ◌<◌, ◌≤◌, min, max, List, [], ◌∷◌, ◌++◌, Option, Some, None, Result, Ok, Err}
+use Rattle.std.specs.Prelude.{◌≡◌, ℕ, ◌+◌, ◌-◌, ◌≤◌, min, max, List, [], ◌∷◌, ◌++◌, Option, Some, None, Result, Ok, Err}
 use Rattle.mu_tree.specs.Names.{IsName}
 use Rattle.mu_tree.specs.declared.trees.Tree.{Tree}
 use Rattle.mu_text.specs.declared.symbol.Word.{Word}
@@ -13,7 +13,7 @@ use Rattle.mu_text.specs.declared.operand.Several.{Several}
 use Rattle.mu_text.specs.Lexemes.{Lexeme, word, mark, first_sort}
 use Rattle.mu_text.specs.Parts.{stopped}
 use Rattle.mu_text.specs.Ops.{operator_of}
-use Rattle.mu_text.specs.Writings.{Writing, Writings, apply, bind, level, tree_of, trees_of, nodes, nodes_of, deep, deep_of, Kept, KeptAll}
+use Rattle.mu_text.specs.Writings.{Writing, Writings, apply, level, tree_of, trees_of, nodes, nodes_of, deep, deep_of, Kept, KeptAll}
 use Rattle.mu_text.specs.Machine.{Stack, Mode, want, named, binding, have, given, run}
 
 -- counts are kept up to here, past every limit

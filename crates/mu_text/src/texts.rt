@@ -199,7 +199,8 @@ mod tests {
         let claim = read_claim(alloc, b"p; q |- p and q")?;
         assert_eq!(rt; claim.hyps.len(), 2);
         assert_eq!(rt; claim.conclusion.size(), 3);
-        match read_why(alloc, b"rule r from l, #2 with ?m[x, y] := x or y; ?n := p")? {
+        let why = read_why(alloc, b"rule r from l, #2 with ?m[x, y] := x or y; ?n := p")?;
+        match &why {
             Why::Rule { refs, inst, .. } => {
                 assert_eq!(rt; (refs.len(), inst.len()), (2, 2));
                 assert_eq!(rt; inst.items()[0].params.len(), 2);

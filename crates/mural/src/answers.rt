@@ -44,7 +44,7 @@ pub(crate) fn answer_line(
     match read(alloc, line)? {
         Reading::Command(command) => Ok(Some(carry_out(alloc, store, command)?)),
         Reading::Limit(word) => Ok(Some(past_limit(alloc, line, word)?)),
-        Reading::Refused(column) => Ok(Some(no_command(column as u32))),
+        Reading::Refused(column) => Ok(Some(no_command(column))),
     }
 }
 

@@ -1,10 +1,10 @@
-use Rattle.std.proofs.Common.{rules, ◌≡◌, ℕ, ◌<◌, ◌≤◌, [], ◌∷◌, List, length, ◌+◌, ◌-◌, ◌∙◌, sym, ap, arith, refl, true, false, length-drop}
+use Rattle.std.proofs.Common.{rules, ◌≡◌, ◌≤◌, [], length, ◌-◌, ◌∙◌, arith, refl}
 use Rattle.mu_tree.specs.Names.{IsName}
-use Rattle.mu_text.specs.declared.symbol.Mark.TheVariants.{Not, Colon, Dot}
+use Rattle.mu_text.specs.declared.symbol.Mark.TheVariants.{Not}
 use Rattle.mu_text.specs.declared.way.Beginning.TheVariants as begins
 use Rattle.mu_text.specs.declared.way.Opening.TheVariants as opens
 use Rattle.mu_text.specs.declared.way.Ending.TheVariants as ends
-use Rattle.mu_text.specs.Lexemes.{Lexeme, first_sort, first_bytes, after_first}
+use Rattle.mu_text.specs.Lexemes.{first_sort, first_bytes}
 use Rattle.mu_text.specs.Ops.{constant_of}
 use Rattle.mu_text.specs.Machine.{beginning_of, opening_of, ending_of, want, named, binding, given}
 use Rattle.mu_text.specs.Reads.{Stops}

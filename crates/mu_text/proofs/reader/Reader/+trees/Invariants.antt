@@ -1,4 +1,4 @@
-use Rattle.std.proofs.Common.{◌≡◌, ℕ, ◌<◌, ◌≤◌, [], ◌∷◌, List, length, ◌+◌, ◌-◌, ◌*◌}
+use Rattle.std.proofs.Common.{ℕ, ◌≤◌, List, length, ◌+◌, ◌-◌, ◌*◌}
 use Rattle.mu_text.specs.Machine.{want, have}
 use Rattle.mu_text.specs.Reads.{Goes}
 use Rattle.mu_text.proofs.Steps.{Back}
