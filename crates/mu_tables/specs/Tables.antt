@@ -1,0 +1,29 @@
+-- The words of the language.
+use Rattle.std.specs.Prelude.{ℕ, List, [], ◌∷◌, codes}
+use Rattle.mu_tables.specs.declared.ops.Side.{Side}
+use Rattle.mu_tables.specs.declared.ops.Side.TheVariants.{Neither, Left, Right, Prefix}
+use Rattle.mu_tables.specs.Operators.{Written}
+
+-- the words that each form begins with, and its number
+abbrev pub the_forms : List (List ℕ × ℕ)
+the_forms = (codes "axiom", 3) ∷ (codes "cite", 7) ∷ (codes "const", 2) ∷ (codes "line", 6) ∷ (codes "proof", 5) ∷ (codes "rule", 4) ∷ (codes "status", 8) ∷ (codes "theory", 1) ∷ []
+
+-- the word of each refusal, and its code
+abbrev pub the_refusals : List (List ℕ × ℕ)
+the_refusals = (codes "circle", 8) ∷ (codes "limit", 3) ∷ (codes "syntax", 2) ∷ (codes "taken", 5) ∷ (codes "too-many", 11) ∷ (codes "unknown", 4) ∷ []
+
+-- a row of the table of operators
+abbrev row : List ℕ → List ℕ → ℕ → Side → Written
+row text constant level side = record { text = text; constant = constant; level = level; side = side }
+
+-- the operators
+abbrev pub the_operators : List Written
+the_operators =
+    row (codes ":") (codes "typing") 6 Neither
+    ∷ row (codes "<=>") (codes "iff") 1 Neither
+    ∷ row (codes "=") (codes "eq") 6 Neither
+    ∷ row (codes "=>") (codes "imp") 2 Right
+    ∷ row (codes "and") (codes "and") 4 Left
+    ∷ row (codes "not") (codes "not") 5 Prefix
+    ∷ row (codes "or") (codes "or") 3 Left
+    ∷ []

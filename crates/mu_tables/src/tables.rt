@@ -1,0 +1,84 @@
+ghost use Rattle.std.specs.Prelude.{◌≡◌};
+ghost use Rattle.mu_tables.specs.Words.{rows_of};
+ghost use Rattle.mu_tables.specs.Operators.{written};
+ghost use Rattle.mu_tables.specs.Tables.{the_forms, the_operators, the_refusals};
+
+use crate::ops::{Op, Ops, Side};
+use crate::words::{Row, Words};
+
+/// Rows of texts with their numbers.
+macro_rules! words {
+    ($($text:literal $number:literal;)*) => {
+        &[$(Row { text: $text, number: $number }),*]
+    };
+}
+
+/// Rows of operators: the text, the constant, the level and the side.
+macro_rules! operators {
+    ($($text:literal $constant:literal $level:literal $side:ident;)*) => {
+        &[$(Op { text: $text, constant: $constant, level: $level, side: Side::$side }),*]
+    };
+}
+
+/// The forms of commands: the words that a command of the form begins with, with one blank between each two.
+pub fn forms() -> Words<8>
+    ensures { rows_of result.rows.now ≡ the_forms }
+{
+    Words {
+        rows: words! {
+            "axiom" 3;
+            "cite" 7;
+            "const" 2;
+            "line" 6;
+            "proof" 5;
+            "rule" 4;
+            "status" 8;
+            "theory" 1;
+        },
+    }
+}
+
+/// The refusals: the word that each is told by, with its code.
+pub fn refusals() -> Words<6>
+    ensures { rows_of result.rows.now ≡ the_refusals }
+{
+    Words {
+        rows: words! {
+            "circle" 8;
+            "limit" 3;
+            "syntax" 2;
+            "taken" 5;
+            "too-many" 11;
+            "unknown" 4;
+        },
+    }
+}
+
+/// The operators of the language.
+pub fn operators() -> Ops<7>
+    ensures { written result.rows.now ≡ the_operators }
+{
+    Ops {
+        rows: operators! {
+            ":" "typing" 6 Neither;
+            "<=>" "iff" 1 Neither;
+            "=" "eq" 6 Neither;
+            "=>" "imp" 2 Right;
+            "and" "and" 4 Left;
+            "not" "not" 5 Prefix;
+            "or" "or" 3 Left;
+        },
+    }
+}
+
+#[cfg(test)]
+mod tests {
+    use super::*;
+
+    #[test]
+    fn finds_rows(rt: HostRuntime) {
+        assert!(rt; forms().find(b"cite") == Some(7));
+        assert!(rt; forms().find(b"cites").is_none());
+        assert!(rt; operators().by_text(b"=>").map(|op| op.side) == Some(Side::Right));
+    }
+}
