@@ -17,6 +17,7 @@ use Rattle.mu_tree.specs.declared.why.Ref.{Ref}
 use Rattle.mu_tree.specs.declared.why.Why.{Why}
 use Rattle.mu_tree.specs.declared.why.Why.TheVariants as why
 use Rattle.mu_tree.proofs.MapLemmas.{same_name, get-insert_here, get-insert_other, contains_key-insert}
+use Rattle.mu_tree.proofs.TableLemmas.{no_entries}
 use Rattle.mu_graph.specs.Derivations.{Stands}
 use Rattle.mu_graph.specs.Circles.{DiffersAt, GainsAt}
 use Rattle.mu_graph.proofs.DerivationLemmas.{stands_front, stands_back, stands_either}
@@ -64,12 +65,8 @@ module _ {V K : Type 0} (links : V → List K) where
         | false ↦ λ e. stands_back to (links first.1) rest (found_links name value entries to e s)
       ] is
 
-no_entries : {V K : Type 0} (links : V → List K) (to : K) → Stands to (flat_map (λ entry. links entry.1) (finite.entries (finite.empty {X = V} {R = slice_cmp nat_cmp}))) → ⊥
-no_entries {V} links to s = subst (λ entries. Stands to (flat_map (λ entry. links entry.1) entries)) (none (finite.entries (finite.empty {X = V} {R = slice_cmp nat_cmp})) (sym (finite.len-entries finite.empty) ∙ finite.len-empty (slice_cmp nat_cmp) V)) s
-  where
-    none : {A : Type 0} (xs : List A) → length xs ≡ 0 → xs ≡ []
-    none [] e = refl
-    none (x ∷ xs) e = absurd (omega arith)
+none_link : {V K : Type 0} (links : V → List K) (to : K) → Stands to (flat_map (λ entry. links entry.1) (finite.entries (finite.empty {X = V} {R = slice_cmp nat_cmp}))) → ⊥
+none_link {V} links to s = subst (λ entries. Stands to (flat_map (λ entry. links entry.1) entries)) no_entries s
 
 -- ---- an edit of one proof
 module _ (proofs : ProofsOf) (rule : List ℕ) where
@@ -78,7 +75,7 @@ module _ (proofs : ProofsOf) (rule : List ℕ) where
   proofs_lead to s = go (finite.get proofs rule) s
     where
       go : (found : Option (MapOf (List Item))) → Stands to (cited_in (option_map_or (λ there. there) found finite.empty)) → Stands to (option_map_or cited_in found [])
-      go None t = absurd (no_entries cites to t)
+      go None t = absurd (none_link cites to t)
       go (Some there) t = t
 
   module _ (proof : List ℕ) where

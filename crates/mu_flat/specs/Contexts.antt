@@ -8,8 +8,8 @@ use Rattle.std.specs.FinMap.Entries.{find}
 use Rattle.std.proofs.Common.{inl, inr, ap, sym, ◌∙◌, true, false}
 use Rattle.std.specs.List.{filter}
 use Rattle.mu_tree.specs.Names.{is_among}
-use Rattle.mu_decl.specs.Contexts.{World, IsSeen, Sees, Climbs, parents_of}
-use Rattle.mu_decl.specs.Nothing.{nothing, nothing_seen}
+use Rattle.mu_decl.specs.Contexts.{World, IsSeen, IsLawful, Sees, Climbs, parents_of}
+use Rattle.mu_decl.specs.Nothing.{nothing, nothing_seen, none_ordered}
 use Rattle.mu_flat.specs.Entries.{Entries, world_of}
 
 -- none of these entries has a parent
@@ -41,8 +41,8 @@ module _ (w : World) (none : (u : List ℕ) → parents_of w u ≡ []) where
 nothing_none : (u : List ℕ) → parents_of nothing u ≡ []
 nothing_none u = ap (λ o. option_map_or (λ names. names) o []) (finite.get-empty (slice_cmp nat_cmp) u)
 
--- the law of a context holds of a store
-pub seen_so : (e : Entries) (u : List ℕ) → IsSeen (world_of e) u
+-- what is seen from a unit of a store is listed
+seen_so : (e : Entries) (u : List ℕ) → IsSeen (world_of e) u
 seen_so e u = (
   λ n. (
     λ listed. seen_less nothing nothing_none (world_of e) u n (((nothing_seen u).0 n).0 listed),
@@ -50,6 +50,10 @@ seen_so e u = (
   ),
   (nothing_seen u).1,
 )
+
+-- the law of a context holds of a store
+pub lawful_so : (e : Entries) (u : List ℕ) → IsLawful (world_of e) u
+lawful_so e u = record { parents = none_ordered (world_of e) u (parents_none e u); seen = seen_so e u }
 
 -- the names in some entries whose values pass
 abbrev pub names_in : {V : Type 0} → (V → Bool) → List (List ℕ × V) → List (List ℕ)

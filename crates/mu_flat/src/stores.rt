@@ -277,11 +277,11 @@ fn add_citer(
 #[tactic(auto, using(mu_decl::specs::Nothing::nothing_equations))]
 impl Context for Store {
     ghost use Rattle.mu_flat.specs.Entries.{world_of};
-    ghost use Rattle.mu_flat.specs.Contexts.{seen_so};
+    ghost use Rattle.mu_flat.specs.Contexts.{lawful_so};
 
     ghost world = { world_of };
 
-    ghost exact = { seen_so };
+    ghost exact = { lawful_so };
 
     fn constant(&self, name: &Name) -> Option<&ConstDecl> {
         self.constants.get(name)

@@ -1,5 +1,5 @@
 -- The entries of a finite map by name as members of a list.
-use Rattle.std.proofs.Common.{refl, sym, ap, subst, ◌∙◌, ◌≡◌, ℕ, Bool, true, false, List, [], ◌∷◌, map, Some, None, inl, inr}
+use Rattle.std.proofs.Common.{sym, ap, subst, ◌∙◌, ◌≡◌, ℕ, Bool, true, false, List, [], ◌∷◌, map, Some, inl, inr}
 use Rattle.std.specs.Prelude.{◌&&◌, T}
 use Rattle.std.specs.Ordering.{nat_cmp, eq_by_cmp, is_eq, is_lt, is_gt, ordering_reverse}
 use Rattle.std.specs.declared.cmp.Ordering.{Ordering}
@@ -99,11 +99,3 @@ module _ {V : Type 0} where
   -- a name at which the map has a value is one of its keys
   pub kept_stands : (m : MapOf V) (name : List ℕ) (value : V) → finite.get m name ≡ Some value → Stands name (finite.keys m)
   kept_stands m name value is = stands_map (λ entry. entry.0) (name, value) (finite.entries m) (found_entry m name value is)
-
-  none_among : (entries : List (List ℕ × V)) → ((name : List ℕ) (value : V) → Stands (name, value) entries → ⊥) → entries ≡ []
-  none_among [] none = refl
-  none_among (entry ∷ entries) none = absurd (none entry.0 entry.1 (inl refl))
-
-  -- an empty map has no entries
-  pub no_entries : finite.entries {X = V} {R = slice_cmp nat_cmp} finite.empty ≡ []
-  no_entries = none_among _ (λ name value s. let is : None ≡ Some value = sym (finite.get-empty (slice_cmp nat_cmp) name) ∙ entry_found finite.empty name value s in absurd (cc is))

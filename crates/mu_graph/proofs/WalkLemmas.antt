@@ -5,7 +5,7 @@ use Rattle.std.proofs.lemmas.Bool.{false≢true}
 use Rattle.std.proofs.lemmas.List.{append-nil, length-map}
 use Rattle.mu_graph.specs.Derivations.{Stands}
 use Rattle.mu_graph.specs.KeySets.{Adds, IsBlank}
-use Rattle.mu_graph.specs.Walks.{Steps, LeadsTo, IsLedTo, Walked, AreDistinct, Lists, AreInOrder, AreAwaited, IsWalk, Advances, entering, leaving, unmarked, remaining}
+use Rattle.mu_graph.specs.Walks.{Steps, LeadsTo, IsLedTo, Walked, AreDistinct, Lists, AreInOrder, AreAwaited, IsWalk, Advances, entering, leaving, unmarked}
 use Rattle.mu_graph.specs.declared.walks.Step.{Step}
 use Rattle.mu_graph.specs.declared.walks.Step.TheVariants.{Enter, Leave}
 use Rattle.mu_graph.proofs.DerivationLemmas.{stands_front, stands_back, stands_either, stands_one, stands_last}

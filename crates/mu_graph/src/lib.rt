@@ -5,8 +5,6 @@ mod circles;
 mod derivations;
 mod key_sets;
 mod names;
-#[cfg(test)]
-mod tests;
 mod walks;
 
 pub use circles::{are_apart, between};

@@ -22,7 +22,7 @@ use Rattle.mu_proof.specs.declared.items.Item.TheFolds.{map-Item, fold-roll-Item
 use Rattle.mu_proof.specs.declared.items.Item.TheVariants as item
 use Rattle.mu_proof.specs.declared.items.Item.TheViews.{out-Item, roll-Item, out-roll-Item, roll-out-Item}
 use Rattle.mu_proof.specs.Items.{label_of, is_line, IsLine, has_label, is_line_at, label_step, line_step, with_why, why_step, why_of, reason_step, rejustified}
-use Rattle.mu_proof.specs.Proofs.{IsProof, is_label, is_line_label, is_free, root, with_why_at, unless, insert_fault, label_fault, room_fault}
+use Rattle.mu_proof.specs.Proofs.{IsProof, is_label, is_free, root, with_why_at, unless, insert_fault, label_fault, room_fault}
 
 any_step : (b : Bool) (n m : ℕ) (t : Bool) → nat_lt n m ≡ t → nat_lt (cond (not b) (1 + n) 0) (1 + m) ≡ (b || t)
 any_step true n m t e = grind (arith, nat_tests)
@@ -183,11 +183,6 @@ module _ (label : List ℕ) (why : Option Why) where
 
   is_line_at-rejustified : (i : Item) → is_line_at label (rejustified label why i) ≡ is_line_at label i
   is_line_at-rejustified i = rw (label_of-rejustified i, is_line-rejustified i)
-
-  -- a line of the label stays one
-  pub same_is_line_label : (items : List Item) → is_line_label (with_why_at items label why) label ≡ is_line_label items label
-  same_is_line_label [] = refl
-  same_is_line_label (i ∷ items) = rw (is_line_at-rejustified i, same_is_line_label items)
 
   lines_stay : (items : List Item) → All IsLine items → All IsLine (with_why_at items label why)
   lines_stay items lines = All-map IsLine (rejustified label why) items (λ k d h. is_line-rejustified (get_or items k d) ∙ lines k d h)

@@ -11,7 +11,8 @@ use Rattle.mu_graph.specs.Derivations.{Stands, AllStand, IsReached}
 use Rattle.mu_graph.specs.KeySets.{IsBlank}
 use Rattle.mu_graph.specs.Walks.{IsLedTo}
 use Rattle.mu_graph.proofs.DerivationLemmas.{stands_front, stands_back, stands_either, stands_one, all_flat_map}
-use Rattle.mu_graph.proofs.EntryLemmas.{found_entry, no_entries}
+use Rattle.mu_tree.proofs.TableLemmas.{no_entries}
+use Rattle.mu_graph.proofs.EntryLemmas.{found_entry}
 use Rattle.mu_graph.proofs.Decided.{derivable_decides, derived_locally, reached_from_none}
 use Rattle.mu_proof.specs.declared.items.Item.{Item}
 use Rattle.mu_proof.specs.Citations.{cites}

@@ -1,6 +1,6 @@
-use Rattle.std.proofs.Common.{arith, ◌≡◌, ◌∙◌, sym, ap, subst, [], ◌∷◌, map, Bool, true, false, List}
+use Rattle.std.proofs.Common.{arith, ◌≡◌, ◌∙◌, sym, subst, [], ◌∷◌, map}
 use Rattle.std.proofs.lemmas.Grind.{common_steps}
-use Rattle.mu_graph.specs.Walks.{IsWalk, Advances}
+use Rattle.mu_graph.specs.Walks.{Advances}
 use Rattle.mu_graph.specs.declared.walks.Step.TheVariants.{Enter}
 use Rattle.mu_graph.proofs.CircleLemmas.{none_met, none_seen, not_so}
 use Rattle.mu_graph.proofs.WalkLemmas.{walk_starts, last_step}

@@ -3,7 +3,6 @@ use Rattle.std.proofs.lemmas.Grind.{common_steps}
 use Rattle.std.proofs.lemmas.List.{take_more}
 use Rattle.mu_graph.specs.KeySets.{Adds}
 use Rattle.mu_graph.specs.Circles.{Traced}
-use Rattle.mu_graph.specs.Walks.{Reaches}
 use Rattle.mu_graph.proofs.CircleLemmas.{none_traced, one_traced, one_passed, behind, all_traced}
 use Rattle.mu_graph.proofs.circles.trace.Goals as goal
 use Rattle.mu_graph.proofs.circles.trace.Goals.{then-branch+in_ok-duplicate-2+in_ok-add-2+in_ok-duplicate-3+in_ok-push, else-branch}

@@ -1,6 +1,5 @@
-use Rattle.std.proofs.Common.{arith, sym, subst, ap, ◌≡◌, ◌∙◌, true, [], ◌∷◌, ◌++◌}
+use Rattle.std.proofs.Common.{arith, sym, ◌≡◌, ◌∙◌, [], ◌∷◌, ◌++◌}
 use Rattle.std.proofs.lemmas.Grind.{common_steps}
-use Rattle.mu_graph.specs.Walks.{Advances}
 use Rattle.mu_graph.specs.declared.walks.Step.TheVariants.{Enter, Leave}
 use Rattle.mu_graph.proofs.WalkLemmas.{one_left, one_skipped, one_visited}
 use Rattle.mu_graph.proofs.walks.advance.Goals as goal

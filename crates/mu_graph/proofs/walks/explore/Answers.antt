@@ -1,6 +1,6 @@
-use Rattle.std.proofs.Common.{arith, ◌≡◌, ◌++◌, map, [], subst}
+use Rattle.std.proofs.Common.{arith, ◌≡◌, map, [], subst}
 use Rattle.std.proofs.lemmas.Grind.{common_steps}
-use Rattle.mu_graph.specs.Walks.{IsWalk, Walked, entering}
+use Rattle.mu_graph.specs.Walks.{Walked, entering}
 use Rattle.mu_graph.specs.declared.walks.Step.TheVariants.{Enter}
 use Rattle.mu_graph.proofs.WalkLemmas.{walk_starts, walk_ends}
 use Rattle.mu_graph.proofs.walks.explore.Goals as goal

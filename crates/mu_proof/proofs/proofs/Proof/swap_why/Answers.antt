@@ -2,7 +2,7 @@ use Rattle.std.proofs.Common.{◌≡◌, true, ap, sym, ◌∙◌, set, Some, No
 use Rattle.std.specs.List.{position}
 use Rattle.mu_proof.specs.Items.{is_line_at}
 use Rattle.mu_proof.specs.Proofs.{with_why_at, is_line_label}
-use Rattle.mu_proof.proofs.EditLemmas.{none_passes, one_passes, other_why, one_replaced, same_is_line_label, with_why_at_twice, with_why_at_own}
+use Rattle.mu_proof.proofs.EditLemmas.{none_passes, one_passes, other_why, one_replaced, with_why_at_twice, with_why_at_own}
 use Rattle.mu_proof.proofs.proofs.Proof.swap_why.Goals as goal
 
 found : (c : goal.After-self-1) → Some c.in-Some.at ≡ position (is_line_at c.args.label.now) c.self.inside.items.items
@@ -35,12 +35,6 @@ returns-in-Some-clause-back c _ =
     ∙ ap (with_why_at items label) c.swap_why.ensures.reason
     ∙ with_why_at_own label items c.in-Some.at _ _ c.self.invariant.distinct (found c) c.index_mut.ensures.value
     ∙ c.self.view_is
-
-pub returns-in-Some-clause-again : goal.returns-in-Some-clause-again
-returns-in-Some-clause-again c _ =
-    ap (λ items. is_line_label items c.args.label.now) (replaced c)
-    ∙ same_is_line_label c.args.label.now c.args.why.now c.self.inside.items.items
-    ∙ has_line c
 
 pub returns-in-None-clause-found : goal.returns-in-None-clause-found
 returns-in-None-clause-found c =
