@@ -9,6 +9,7 @@ pub mod Instances
 pub mod Judgements
 pub mod Justifications
 pub mod Labels
+pub mod Lines
 pub mod Metas
 pub mod Places
 pub mod Same

@@ -17,6 +17,7 @@ mod hypotheses;
 mod instances;
 mod justifications;
 mod labels;
+mod lines;
 mod metas;
 mod verdicts;
 

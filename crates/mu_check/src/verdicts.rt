@@ -8,6 +8,8 @@ ghost use Rattle.mu_check.specs.Blocks.{block_cause};
 ghost use Rattle.mu_check.specs.Judgements.{VerdictsAreExact};
 ghost use Rattle.mu_check.specs.Verdicts.{labelled, line_tree, last_line, ending_cause, checked, in_order, with_block, allowed_by, verdict};
 ghost use Rattle.mu_check.specs.Goals.{conclusion_cause, goal_by, goal_fault, KeepsGoal, IsGoalOf, IsChecker};
+ghost use Rattle.mu_tables.specs.Work.{raised};
+ghost use Rattle.mu_check.specs.Lines.{lines_of};
 
 use crate::allowed::Allowed;
 use crate::blocks::block_cause;
@@ -16,9 +18,11 @@ use crate::environments::{Environment, add_item, leave, start, within};
 use crate::fact::{Fact, is_equal};
 use crate::facts::{closed, plain_fact};
 use crate::justifications::line_cause;
+use crate::lines::lines_of;
 use crate::metas::Metas;
 use mu_decl::{Context, Statement, claim_occurrences};
 use mu_proof::{Item, Proof};
+use mu_tables::Work;
 use mu_tree::{Name, NoMemory, Sequence, Tree, TypedVar, Why};
 use std::alloc::Global;
 
@@ -369,7 +373,8 @@ impl Checker {
     ///
     /// The items are tested from first to last, a block before the items in it and again after them, and the whole
     /// proof last. The label of a fault is that of the item, and `root` for the whole proof. A line that cites a rule
-    /// translated by a morphism doesn't hold: its cause is `Absent`, unless an earlier one fits.
+    /// translated by a morphism doesn't hold: its cause is `Absent`, unless an earlier one fits. The lines of the proof
+    /// count as work.
     ///
     /// # Errors
     ///
@@ -380,17 +385,28 @@ impl Checker {
         alloc: Global,
         context: &C,
         proof: &Proof,
+        work: &mut Work,
     ) -> Result<Verdict, NoMemory>
         requires { IsChecker (C.world context.now) self.old }
+        ensures work { work.new.lines ≡ raised work.old.lines (lines_of proof.now) }
         ensures verdict { IfOk result (λ found. found ≡ verdict (C.world context.now) self.old.rule proof.now) }
         ensures kept { OnOk result (IsChecker (C.world context.now) self.new) }
         ensures rule { OnOk result (self.new.rule ≡ self.old.rule) }
     {
+        count(proof, work);
         verdict(alloc, context, proof.items(), &self.rule, &mut self.goal)
     }
 }
 
-/// The verdict on a proof of the rule of this name, as a `Checker` of the rule gives it.
+/// Counts the lines of a proof as work.
+fn count(proof: &Proof, work: &mut Work)
+    ensures { work.new.lines ≡ raised work.old.lines (lines_of proof.now) }
+{
+    work.add_lines(lines_of(proof.items()));
+}
+
+/// The verdict on a proof of the rule of this name, as a `Checker` of the rule gives it. The lines of the proof count as
+/// work, however far the check goes.
 ///
 /// # Errors
 ///
@@ -401,10 +417,13 @@ pub fn check_proof<C: Context>(
     context: &C,
     proof: &Proof,
     rule: &Name,
+    work: &mut Work,
 ) -> Result<Verdict, NoMemory>
+    ensures work { work.new.lines ≡ raised work.old.lines (lines_of proof.now) }
     ensures verdict { IfOk result (λ found. found ≡ verdict (C.world context.now) rule.now proof.now) }
     ensures law { VerdictsAreExact }
 {
+    count(proof, work);
     let mut goal = goal_of(alloc, context, rule)?;
     verdict(alloc, context, proof.items(), rule, &mut goal)
 }

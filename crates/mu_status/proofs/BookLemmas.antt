@@ -1,8 +1,11 @@
 -- The ways that are kept, and what is established by them.
 use Rattle.std.proofs.Common.{◌≡◌, refl, sym, ap, subst, ◌∙◌, ℕ, Bool, true, false, List, [], ◌∷◌, ◌++◌, map, Some, None, IsTrue, ◌↔◌, inl, inr}
-use Rattle.std.specs.Prelude.{Option, is_some}
+use Rattle.std.specs.Prelude.{Option, is_some, cond}
 use Rattle.std.specs.Option.{option_map_or}
+use Rattle.std.specs.List.{filter}
 use Rattle.std.specs.FinMap as finite
+use Rattle.std.proofs.lemmas.List.{map-append}
+use Rattle.std.proofs.lemmas.List.Elements.{filter-append}
 use Rattle.std.specs.Ordering.{nat_cmp}
 use Rattle.std.specs.Cmp.Lexicographic.{slice_cmp}
 use Rattle.mu_tree.specs.Maps.{MapOf}
@@ -21,7 +24,7 @@ use Rattle.mu_proof.specs.declared.citations.Cited.TheVariants.{Rule, Morphism}
 use Rattle.mu_flat.specs.ProofTables.{ProofsOf, proofs_of, cited_in, leads}
 use Rattle.mu_flat.specs.Entries.{Entries}
 use Rattle.mu_status.specs.Books.{kept_ways, IsBook}
-use Rattle.mu_status.specs.Statuses.{ways, is_established}
+use Rattle.mu_status.specs.Statuses.{ways, is_established, checks, proof_ways, way_by}
 use Rattle.mu_status.proofs.Standing.{ways_found, rules_cover}
 
 -- a rule without proofs has no entries of proofs
@@ -146,3 +149,14 @@ module _ (e : Entries) where
       same_test true b there back = sym (there refl)
       same_test false true there back = back refl
       same_test false false there back = refl
+
+-- one proof more gives its way, where it checks
+pub ways_more : (e : Entries) (rule : List ℕ) (entries : List (List ℕ × List Item)) (entry : List ℕ × List Item) → proof_ways e rule (entries ++ entry ∷ []) ≡ proof_ways e rule entries ++ way_by e rule entry.1
+ways_more e rule entries entry =
+    let passes = checks e rule in
+    let way = λ (each : List ℕ × List Item). cites each.1 in
+    ap (map way) (filter-append passes entries (entry ∷ [])) ∙ map-append way (filter passes entries) (filter passes (entry ∷ [])) ∙ ap (λ rest. map way (filter passes entries) ++ rest) (one (passes entry))
+  where
+    one : (b : Bool) → map (λ (each : List ℕ × List Item). cites each.1) (cond b (entry ∷ []) []) ≡ cond b (cites entry.1 ∷ []) []
+    one true = refl
+    one false = refl

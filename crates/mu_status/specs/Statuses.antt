@@ -36,9 +36,17 @@ HasStatus e rule s Unproved = (is_well_formed e s ≡ true) × (IsEstablished e 
 abbrev pub checks : Entries → List ℕ → List ℕ × List Item → Bool
 checks e rule entry = is_none (verdict (world_of e) rule entry.1)
 
+-- what each of some proofs of the rule that checks cites
+abbrev pub proof_ways : Entries → List ℕ → List (List ℕ × List Item) → List (List Cited)
+proof_ways e rule entries = map (λ entry. cites entry.1) (filter (checks e rule) entries)
+
+-- what a proof of the rule cites, where it checks
+abbrev pub way_by : Entries → List ℕ → List Item → List (List Cited)
+way_by e rule items = if is_none (verdict (world_of e) rule items) then (cites items ∷ []) else []
+
 -- the ways to a well-formed rule with this statement: one without premises for an axiom, and what each proof that checks cites for another rule
 abbrev pub formed_ways : Entries → List ℕ → Statement → List (List Cited)
-formed_ways e rule s = if s.is_axiom then ([] ∷ []) else map (λ entry. cites entry.1) (filter (checks e rule) (finite.entries (proofs_of e.proofs rule)))
+formed_ways e rule s = if s.is_axiom then ([] ∷ []) else proof_ways e rule (finite.entries (proofs_of e.proofs rule))
 
 -- the ways to a rule with this statement: none where it is not well formed
 abbrev pub rule_ways : Entries → List ℕ → Statement → List (List Cited)

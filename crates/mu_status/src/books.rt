@@ -1,19 +1,21 @@
 ghost use Rattle.std.specs.Prelude.{◌≡◌, ◌∷◌, ◌++◌, [], map, List, IfOk, OnOk};
 ghost use Rattle.std.specs.FinMap as finite;
-ghost use Rattle.std.specs.List.{filter, list_all};
-ghost use Rattle.mu_proof.specs.Citations.{cites};
+ghost use Rattle.std.specs.List.{list_all};
 ghost use Rattle.mu_proof.specs.declared.citations.Cited.{Cited as CitedOf};
 ghost use Rattle.mu_proof.specs.declared.citations.Cited.TheVariants.{Rule};
+ghost use Rattle.mu_check.specs.Goals.{IsChecker};
 ghost use Rattle.mu_flat.specs.CitedSets.{is_marked};
+ghost use Rattle.mu_flat.specs.Entries.{world_of};
 ghost use Rattle.mu_graph.specs.Derivations.{Stands, is_ready};
 ghost use Rattle.mu_status.specs.Books.{kept_ways, IsBook};
-ghost use Rattle.mu_status.specs.Statuses.{checks, formed_ways, ways, is_established};
+ghost use Rattle.mu_status.specs.Statuses.{proof_ways, way_by, formed_ways, ways, is_established};
 
-use mu_check::check_proof;
+use mu_check::Checker;
 use mu_decl::{Context, Statement, well_formed};
 use mu_flat::{CitedSet, Store};
 use mu_graph::{Inferences, KeySet, reachable, reached};
 use mu_proof::{Citations, Cited, Proof, cites};
+use mu_tables::Work;
 use mu_tree::{Name, NoMemory, Sequence, Table};
 use std::alloc::Global;
 
@@ -51,22 +53,42 @@ fn some_marked(ways: &[Citations], marks: &CitedSet) -> bool
     ways.iter().any(|way| all_marked(way, marks))
 }
 
-/// What each proof of a rule that checks cites.
+/// What each proof of a rule that checks cites. The claim of the rule is made ready once for all of them.
 fn proof_ways(
     alloc: Global,
     store: &Store,
     rule: &Name,
     proofs: &Table<Proof>,
+    work: &mut Work,
 ) -> Result<Sequence<Citations>, NoMemory>
-    ensures { IfOk result (λ ways. ways ≡ map (λ entry. cites entry.1) (filter (checks store.now rule.now) (finite.entries proofs.now))) }
+    ensures { IfOk result (λ ways. ways ≡ proof_ways store.now rule.now (finite.entries proofs.now)) }
 {
     let mut ways = Sequence::new(alloc);
+    let mut checker = Checker::new(alloc, store, rule)?;
     for entry in proofs.entries(alloc)? {
-        if check_proof(alloc, store, entry.1, rule)?.is_none() {
-            ways.push(cites(alloc, entry.1.items())?)?;
-        }
+        add_way(alloc, store, entry.1, &mut checker, &mut ways, work)?;
     }
     Ok(ways)
+}
+
+/// Adds what a proof of the checker's rule cites, where it checks.
+fn add_way(
+    alloc: Global,
+    store: &Store,
+    proof: &Proof,
+    checker: &mut Checker,
+    ways: &mut Sequence<Citations>,
+    work: &mut Work,
+) -> Result<(), NoMemory>
+    requires { IsChecker (world_of store.now) checker.old }
+    ensures ways { OnOk result (ways.new ≡ ways.old ++ way_by store.now checker.old.rule proof.now) }
+    ensures kept { OnOk result (IsChecker (world_of store.now) checker.new) }
+    ensures rule { OnOk result (checker.new.rule ≡ checker.old.rule) }
+{
+    if checker.check(alloc, store, proof, work)?.is_none() {
+        ways.push(cites(alloc, proof.items())?)?;
+    }
+    Ok(())
 }
 
 /// The ways to a rule with this statement, whose claim is well formed. Each proof of it is checked once.
@@ -75,6 +97,7 @@ pub(crate) fn formed_ways(
     store: &Store,
     rule: &Name,
     statement: &Statement,
+    work: &mut Work,
 ) -> Result<Sequence<Citations>, NoMemory>
     ensures { IfOk result (λ ways. ways ≡ formed_ways store.now rule.now statement.now) }
 {
@@ -84,13 +107,18 @@ pub(crate) fn formed_ways(
         return Ok(ways);
     }
     match store.proofs().of_rule(rule) {
-        Some(proofs) => proof_ways(alloc, store, rule, proofs),
+        Some(proofs) => proof_ways(alloc, store, rule, proofs, work),
         None => Ok(ways),
     }
 }
 
 /// The ways to the rule of a name, none where there is no such rule or its claim is not well formed.
-fn ways_to(alloc: Global, store: &Store, rule: &Name) -> Result<Sequence<Citations>, NoMemory>
+fn ways_to(
+    alloc: Global,
+    store: &Store,
+    rule: &Name,
+    work: &mut Work,
+) -> Result<Sequence<Citations>, NoMemory>
     ensures { IfOk result (λ found. found ≡ ways store.now (Rule rule.now)) }
 {
     let Some(statement) = store.rule(rule) else {
@@ -99,7 +127,7 @@ fn ways_to(alloc: Global, store: &Store, rule: &Name) -> Result<Sequence<Citatio
     if !well_formed(alloc, store, &statement.theory, &statement.claim)? {
         return Ok(Sequence::new(alloc));
     }
-    formed_ways(alloc, store, rule, statement)
+    formed_ways(alloc, store, rule, statement, work)
 }
 
 /// The ways to some members, of which a rule is one whose ways are known.
@@ -109,6 +137,7 @@ fn book_of(
     rule: &Name,
     own: Sequence<Citations>,
     members: &[Cited],
+    work: &mut Work,
 ) -> Result<Book, NoMemory>
     requires own { own ≡ ways store.now (Rule rule.now) }
     requires there { Stands (Rule rule.now) members.now }
@@ -118,7 +147,7 @@ fn book_of(
     rules.put(rule.copy(alloc)?, own)?;
     for member in members {
         if let Cited::Rule(name) = member {
-            add_ways(alloc, store, name, &mut rules)?;
+            add_ways(alloc, store, name, &mut rules, work)?;
         }
     }
     Ok(Book { rules })
@@ -130,13 +159,14 @@ fn add_ways(
     store: &Store,
     rule: &Name,
     rules: &mut Table<Sequence<Citations>>,
+    work: &mut Work,
 ) -> Result<(), NoMemory>
     ensures { OnOk result ((members : List CitedOf) → IsBook store.now members rules.old → IsBook store.now (members ++ Rule rule.now ∷ []) rules.new) }
 {
     if rules.has(rule) {
         return Ok(());
     }
-    rules.put(rule.copy(alloc)?, ways_to(alloc, store, rule)?)?;
+    rules.put(rule.copy(alloc)?, ways_to(alloc, store, rule, work)?)?;
     Ok(())
 }
 
@@ -151,6 +181,7 @@ pub(crate) fn is_established(
     store: &Store,
     rule: &Name,
     own: Sequence<Citations>,
+    work: &mut Work,
 ) -> Result<bool, NoMemory>
     requires { own ≡ ways store.now (Rule rule.now) }
     ensures { IfOk result (λ yes. yes ≡ is_established store.now rule.now) }
@@ -159,7 +190,7 @@ pub(crate) fn is_established(
     let mut starts = Vec::new(alloc);
     starts.push(Cited::Rule(rule.copy(alloc)?))?;
     let order = reachable(alloc, store.proofs(), starts)?;
-    let book = book_of(alloc, store, rule, own, order.as_slice())?;
+    let book = book_of(alloc, store, rule, own, order.as_slice(), work)?;
     let marks = reached(alloc, &book, <CitedSet as KeySet>::none(alloc), order)?;
     Ok(marks.has(&member))
 }

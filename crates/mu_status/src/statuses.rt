@@ -8,6 +8,7 @@ use crate::books::{formed_ways, is_established};
 use mu_decl::{Context, Statement, well_formed};
 use mu_flat::Store;
 use mu_proof::Proof;
+use mu_tables::Work;
 use mu_tree::{Name, NoMemory, Table};
 use std::alloc::Global;
 
@@ -43,17 +44,23 @@ impl RuleStatus {
     }
 }
 
-/// The status of the rule of a name, none exactly where there is no such rule.
+/// The status of the rule of a name, none exactly where there is no such rule. The lines of the proofs that are checked
+/// for it count as work.
 ///
 /// # Errors
 ///
 /// `NoMemory`.
-pub fn status(alloc: Global, store: &Store, rule: &Name) -> Result<Option<RuleStatus>, NoMemory>
+pub fn status(
+    alloc: Global,
+    store: &Store,
+    rule: &Name,
+    work: &mut Work,
+) -> Result<Option<RuleStatus>, NoMemory>
     ensures value { IfOk result (λ status. status ≡ status_at store.now rule.now) }
     ensures laws { StatusesAreExact }
 {
     match store.rule(rule) {
-        Some(statement) => Ok(Some(status_of(alloc, store, rule, statement)?)),
+        Some(statement) => Ok(Some(status_of(alloc, store, rule, statement, work)?)),
         None => Ok(None),
     }
 }
@@ -64,6 +71,7 @@ fn status_of(
     store: &Store,
     rule: &Name,
     statement: &Statement,
+    work: &mut Work,
 ) -> Result<RuleStatus, NoMemory>
     requires { finite.get store.now.rules rule.now ≡ Some statement.now }
     ensures { IfOk result (λ status. status ≡ status_of store.now rule.now statement.now) }
@@ -71,9 +79,9 @@ fn status_of(
     if !well_formed(alloc, store, &statement.theory, &statement.claim)? {
         return Ok(RuleStatus::IllFormed);
     }
-    let own = formed_ways(alloc, store, rule, statement)?;
+    let own = formed_ways(alloc, store, rule, statement, work)?;
     let is_complete = !own.is_empty();
-    if is_established(alloc, store, rule, own)? {
+    if is_established(alloc, store, rule, own, work)? {
         return Ok(RuleStatus::Established);
     }
     let status = status_by_proofs(alloc, store, rule, is_complete)?;

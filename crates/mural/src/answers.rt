@@ -13,6 +13,7 @@ use mu_decl::{Context, Statement};
 use mu_edit::apply;
 use mu_flat::{EditFault, Store, is_base, is_base_constant};
 use mu_status::{RuleStatus, status};
+use mu_tables::Work;
 use mu_text::parts::{name_bytes, sees_word};
 use mu_text::{Reader, Token, Tokens, is_blank};
 use mu_tree::{Bytes, LimitWord, Name, NoMemory, Refusal};
@@ -189,7 +190,8 @@ fn touches_base(command: &Command) -> bool
 fn query(alloc: Global, store: &Store, rule: &Name) -> Result<Reply, NoMemory>
     ensures { IfOk result (λ reply. query_outcome store.now rule.now (finite.get store.now.rules rule.now) ≡ record { entries = store.now; reply = reply }) }
 {
-    match (store.rule(rule), status(alloc, store, rule)?) {
+    let mut work = Work::new();
+    match (store.rule(rule), status(alloc, store, rule, &mut work)?) {
         (Some(statement), Some(status)) => Ok(Reply::Page(status_page(
             alloc, rule, statement, status,
         )?)),

@@ -1,4 +1,4 @@
-use Rattle.std.proofs.Common.{arith, ◌≡◌, ◌∙◌, ◌+◌, refl, sym, ap, subst, take, List, ℕ, ◌++◌, [], ◌∷◌}
+use Rattle.std.proofs.Common.{arith, ◌≡◌, ◌∙◌, refl, sym, ap, subst, take, List, ℕ, ◌++◌, [], ◌∷◌}
 use Rattle.std.specs.FinMap as finite
 use Rattle.std.proofs.lemmas.Grind.{common_steps}
 use Rattle.std.proofs.lemmas.List.{take_more}
