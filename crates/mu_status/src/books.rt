@@ -1,6 +1,7 @@
 ghost use Rattle.std.specs.Prelude.{◌≡◌, ◌∷◌, ◌++◌, [], map, List, IfOk, OnOk};
 ghost use Rattle.std.specs.FinMap as finite;
 ghost use Rattle.std.specs.List.{list_all};
+ghost use Rattle.mu_proof.specs.Citations.{cites};
 ghost use Rattle.mu_proof.specs.declared.citations.Cited.{Cited as CitedOf};
 ghost use Rattle.mu_proof.specs.declared.citations.Cited.TheVariants.{Rule};
 ghost use Rattle.mu_check.specs.Goals.{IsChecker};
@@ -86,9 +87,20 @@ fn add_way(
     ensures rule { OnOk result (checker.new.rule ≡ checker.old.rule) }
 {
     if checker.check(alloc, store, proof, work)?.is_none() {
-        ways.push(cites(alloc, proof.items())?)?;
+        add_citations(alloc, proof, ways)?;
     }
     Ok(())
+}
+
+/// Adds what a proof cites.
+fn add_citations(
+    alloc: Global,
+    proof: &Proof,
+    ways: &mut Sequence<Citations>,
+) -> Result<(), NoMemory>
+    ensures { OnOk result (ways.new ≡ ways.old ++ cites proof.now ∷ []) }
+{
+    ways.push(cites(alloc, proof.items())?)
 }
 
 /// The ways to a rule with this statement, whose claim is well formed. Each proof of it is checked once.
