@@ -82,37 +82,3 @@ fn refused(line: &[u8], tokens: &[Token], left: usize) -> Reading
 {
     Reading::Refused(column(line, tokens, tokens.len().saturating_sub(left)))
 }
-
-#[cfg(test)]
-mod tests {
-    use super::*;
-    use std::test::Fail;
-
-    /// The column at which a line is refused, 0 where it is a command, and the greatest number where that passes a limit.
-    fn column_of(alloc: Global, line: &[u8]) -> Result<u32, NoMemory> {
-        match read(alloc, line)? {
-            Reading::Command(_) => Ok(0),
-            Reading::Limit(_) => Ok(u32::MAX),
-            Reading::Refused(column) => Ok(column),
-        }
-    }
-
-    #[test]
-    fn tells_the_column(rt: HostRuntime) -> Result<(), Fail> {
-        let lines: [(&[u8], u32); 8] = [
-            (b"theory t", 0),
-            (b"theory", 7),
-            (b"theorem t", 1),
-            (b"const t p{e} -> t", 0),
-            (b"axiom t a : p and q; r |- ?m[p]", 0),
-            (b"axiom t a : p = q = r", 19),
-            (b"line r p l in b before x : q", 0),
-            (b"cite r p l : rule x with ?m[y] = p", 32),
-        ];
-        for (line, column) in lines.iter() {
-            assert!(rt; column_of(rt.alloc(), line)? == *column);
-        }
-        assert!(rt; column_of(rt.alloc(), &[b'a'; 65])? == 1);
-        Ok(())
-    }
-}
