@@ -1,14 +1,14 @@
 -- Commands are read exactly.
 use Rattle.std.proofs.Common.{◌≡◌, ℕ, Bool, List, [], ◌∷◌, ◌++◌, refl, ap, sym, ◌∙◌, subst, append-nil}
 use Rattle.std.specs.Prelude.{codes}
-use Rattle.mu_text.specs.declared.symbol.Mark.{Mark}
-use Rattle.mu_text.specs.declared.symbol.Mark.TheVariants.{Colon}
-use Rattle.mu_text.specs.Lexemes.{Lexeme, word, mark}
-use Rattle.mu_text.specs.declared.symbol.Word.TheVariants.{Plain}
-use Rattle.mu_text.specs.Parts.{Nothing, End, given_back, Then, chain}
-use Rattle.mu_text.specs.Rows.{Values, SpellsRow}
-use Rattle.mu_text.specs.SimpleParts.{is_word, AnyName, GivenWord, read_word, read_name}
-use Rattle.mu_text.specs.Groups.{Optional}
+use Rattle.mu_grammar.specs.declared.symbol.Mark.{Mark}
+use Rattle.mu_grammar.specs.declared.symbol.Mark.TheVariants.{Colon}
+use Rattle.mu_grammar.specs.Lexemes.{Lexeme, word, mark}
+use Rattle.mu_grammar.specs.declared.symbol.Word.TheVariants.{Plain}
+use Rattle.mu_grammar.specs.Parts.{Nothing, End, given_back, Then, chain}
+use Rattle.mu_grammar.specs.Rows.{Values, SpellsRow}
+use Rattle.mu_grammar.specs.SimpleParts.{is_word, AnyName, GivenWord, read_word, read_name}
+use Rattle.mu_grammar.specs.Groups.{Optional}
 use Rattle.mu_text.proofs.Exact.{Exact, Exact-same, Exact-chain, Exact-pure, Exact-token}
 use Rattle.mu_text.proofs.Simple.{Any, Exact-mark, Exact-name, Exact-plain_name, Exact-word, is_own_word}
 use Rattle.mu_text.proofs.Choice.{Passes, Fails}

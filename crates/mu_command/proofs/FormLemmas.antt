@@ -3,15 +3,15 @@ use Rattle.std.proofs.Common.{◌≡◌, ◌∙◌, ap, sym, refl}
 use Rattle.std.specs.Prelude.{List, [], ◌∷◌, Some, Result, Ok, Err, option_and_then}
 use Rattle.mu_tables.specs.Words.{number_of}
 use Rattle.mu_tables.specs.Tables.{the_forms}
-use Rattle.mu_text.specs.declared.excess.Excess.{Excess}
-use Rattle.mu_text.specs.declared.fault.PartFault.{PartFault}
-use Rattle.mu_text.specs.declared.fault.PartFault.TheVariants.{Mismatch, NoMemory}
-use Rattle.mu_text.specs.declared.symbol.Sort.TheVariants as sort
-use Rattle.mu_text.specs.declared.symbol.Word.TheVariants.{Plain, Dotted, True, Meta, Place}
-use Rattle.mu_text.specs.Lexemes.{Lexeme, word, mark, first_sort, first_bytes}
-use Rattle.mu_text.specs.Parts.{found, ◌>>=◌, Read, Gives, Same, first_as}
-use Rattle.mu_text.specs.Rows.{Values, read_row, StandsRow}
-use Rattle.mu_text.specs.Excesses.{Raising, raised}
+use Rattle.mu_grammar.specs.declared.excess.Excess.{Excess}
+use Rattle.mu_grammar.specs.declared.fault.PartFault.{PartFault}
+use Rattle.mu_grammar.specs.declared.fault.PartFault.TheVariants.{Mismatch, NoMemory}
+use Rattle.mu_grammar.specs.declared.symbol.Sort.TheVariants as sort
+use Rattle.mu_grammar.specs.declared.symbol.Word.TheVariants.{Plain, Dotted, True, Meta, Place}
+use Rattle.mu_grammar.specs.Lexemes.{Lexeme, word, mark, first_sort, first_bytes}
+use Rattle.mu_grammar.specs.Parts.{found, ◌>>=◌, Read, Gives, Same, first_as}
+use Rattle.mu_grammar.specs.Rows.{Values, read_row, StandsRow}
+use Rattle.mu_grammar.specs.Excesses.{Raising, raised}
 use Rattle.mu_text.proofs.Excesses.{raised-append}
 use Rattle.mu_command.specs.declared.command.Command.{Command}
 use Rattle.mu_command.specs.declared.forms.Form.{Form}

@@ -4,18 +4,18 @@ use Rattle.std.specs.Prelude.{if◌then◌else◌, Option, Some, None, Ok}
 use Rattle.std.proofs.lemmas.List.{length-map}
 use Rattle.mu_tree.specs.declared.refusal.LimitWord.{LimitWord}
 use Rattle.mu_tree.specs.declared.refusal.LimitWord.TheVariants as limit
-use Rattle.mu_text.specs.Tokens.{tokens}
-use Rattle.mu_text.specs.Lexemes.{Lexeme, item, items_of}
-use Rattle.mu_text.specs.Parts.{Out, found, stopped}
+use Rattle.mu_grammar.specs.Tokens.{tokens}
+use Rattle.mu_grammar.specs.Lexemes.{Lexeme, item, items_of}
+use Rattle.mu_grammar.specs.Parts.{Out, found, stopped}
 use Rattle.mu_text.proofs.Whole.{reads_exactly, only_value}
 use Rattle.mu_command.specs.declared.readings.Reading.{Reading}
 use Rattle.mu_command.specs.declared.readings.Reading.TheVariants as reading
-use Rattle.mu_text.specs.declared.excess.Excess.{Excess}
-use Rattle.mu_text.specs.Excesses.{excess_of, no_excess}
+use Rattle.mu_grammar.specs.declared.excess.Excess.{Excess}
+use Rattle.mu_grammar.specs.Excesses.{excess_of, no_excess}
 use Rattle.mu_text.proofs.Excesses.{same_excess, raised-none}
 use Rattle.mu_command.specs.declared.command.Command.{Command}
 use Rattle.mu_command.specs.Grammar.{Written, Spells, GivesCommand, command_of, trees_of_command, read_command}
-use Rattle.mu_text.specs.Texts.{has_short_tokens, column}
+use Rattle.mu_grammar.specs.Texts.{has_short_tokens, column}
 use Rattle.mu_text.proofs.Lines.{line_kept}
 use Rattle.mu_command.specs.Readings.{IsRead, ReadingIsExact, Says, first_limit, limit_of, within_limits, read_as, reading_of}
 use Rattle.mu_command.proofs.Exact.{Exact-command}

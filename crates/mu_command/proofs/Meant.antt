@@ -1,9 +1,9 @@
 -- Within the limits, what the code answers for a command is the command that is written.
 use Rattle.std.proofs.Common.{◌≡◌, ℕ, List, [], ◌∷◌, Option, Some, None, refl, ap, ◌∙◌, subst}
-use Rattle.mu_text.specs.Lexemes.{Lexeme}
-use Rattle.mu_text.specs.Rows.{Values, SpellsRow, StandsRow}
-use Rattle.mu_text.specs.Excesses.{excess_of, no_excess}
-use Rattle.mu_text.specs.Limits.{WithinToken, WithinTokens}
+use Rattle.mu_grammar.specs.Lexemes.{Lexeme}
+use Rattle.mu_grammar.specs.Rows.{Values, SpellsRow, StandsRow}
+use Rattle.mu_grammar.specs.Excesses.{excess_of, no_excess}
+use Rattle.mu_grammar.specs.Limits.{WithinToken, WithinTokens}
 use Rattle.mu_text.proofs.Excesses.{none_together, all_parts}
 use Rattle.mu_text.proofs.Limits.{name-keeps, plain_name-keeps, tree-meant, claim-meant, reason-meant, declaration-meant}
 use Rattle.mu_command.specs.declared.command.Command.{Command}

@@ -7,18 +7,18 @@ use Rattle.std.specs.Cmp.Lexicographic.{pointwise}
 use Rattle.std.proofs.lemmas.Bool.{and_parts, eqb-true}
 use Rattle.std.proofs.lemmas.List.Splits.{length-slice_split, join_with_byte-slice_split}
 use Rattle.mu_tree.specs.Names.{is_segment, segments, is_name}
-use Rattle.mu_text.specs.declared.symbol.Word.TheVariants.{Plain, Dotted, True}
-use Rattle.mu_text.specs.declared.symbol.Mark.{Mark}
-use Rattle.mu_text.specs.declared.symbol.Mark.TheVariants.{And, Or, Not, Arrow}
-use Rattle.mu_text.specs.declared.symbol.Sort.TheVariants as sort
-use Rattle.mu_text.specs.declared.token.Token.{Token}
-use Rattle.mu_text.specs.declared.token.TokenSort.{TokenSort}
-use Rattle.mu_text.specs.declared.token.TokenSort.TheVariants.{Name, Meta, Place, Symbol, Wrong}
-use Rattle.mu_text.specs.Reading.{text_of}
-use Rattle.mu_text.specs.Tokens.{tokens}
-use Rattle.mu_text.specs.Lexemes.{Lexeme, word, mark, item, items, item_of, sort_in, word_in, name_word, name_sort, symbol_mark}
-use Rattle.mu_text.specs.Rows.{Values, SpellsRow}
-use Rattle.mu_text.specs.SimpleParts.{plain_name_of, PlainName}
+use Rattle.mu_grammar.specs.declared.symbol.Word.TheVariants.{Plain, Dotted, True}
+use Rattle.mu_grammar.specs.declared.symbol.Mark.{Mark}
+use Rattle.mu_grammar.specs.declared.symbol.Mark.TheVariants.{And, Or, Not, Arrow}
+use Rattle.mu_grammar.specs.declared.symbol.Sort.TheVariants as sort
+use Rattle.mu_grammar.specs.declared.token.Token.{Token}
+use Rattle.mu_grammar.specs.declared.token.TokenSort.{TokenSort}
+use Rattle.mu_grammar.specs.declared.token.TokenSort.TheVariants.{Name, Meta, Place, Symbol, Wrong}
+use Rattle.mu_grammar.specs.Reading.{text_of}
+use Rattle.mu_grammar.specs.Tokens.{tokens}
+use Rattle.mu_grammar.specs.Lexemes.{Lexeme, word, mark, item, items, item_of, sort_in, word_in, name_word, name_sort, symbol_mark}
+use Rattle.mu_grammar.specs.Rows.{Values, SpellsRow}
+use Rattle.mu_grammar.specs.SimpleParts.{plain_name_of, PlainName}
 use Rattle.mu_text.proofs.Excesses.{all_parts}
 use Rattle.mu_text.proofs.Facts.{IsTokenOf, tokens_hold}
 use Rattle.mu_text.proofs.Simple.{from_bytes}

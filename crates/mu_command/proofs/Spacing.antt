@@ -3,16 +3,16 @@ use Rattle.std.proofs.Common.{◌≡◌, ℕ, ◌∙◌, Bool, List, [], ◌∷�
 use Rattle.std.specs.List.{list_all}
 use Rattle.std.proofs.lemmas.List.Folds.{list_all-map}
 use Rattle.mu_tree.specs.Names.{is_short}
-use Rattle.mu_text.specs.Tokens.{tokens}
-use Rattle.mu_text.specs.Lexemes.{items_of}
-use Rattle.mu_text.specs.Parts.{Out, found, stopped}
-use Rattle.mu_text.specs.Spacing.{spaced}
+use Rattle.mu_grammar.specs.Tokens.{tokens}
+use Rattle.mu_grammar.specs.Lexemes.{items_of}
+use Rattle.mu_grammar.specs.Parts.{Out, found, stopped}
+use Rattle.mu_grammar.specs.Spacing.{spaced}
 use Rattle.mu_text.proofs.Spacing.{BareToken, bare_token, bare_tokens, spaced_bare_tokens, spaced_items}
 use Rattle.mu_command.specs.declared.command.Command.{Command}
 use Rattle.mu_command.specs.declared.readings.Reading.TheVariants as reading
-use Rattle.mu_text.specs.Excesses.{excess_of}
+use Rattle.mu_grammar.specs.Excesses.{excess_of}
 use Rattle.mu_command.specs.Grammar.{Written, command_of, trees_of_command, read_command}
-use Rattle.mu_text.specs.Texts.{segments_of, has_short_tokens}
+use Rattle.mu_grammar.specs.Texts.{segments_of, has_short_tokens}
 use Rattle.mu_command.specs.Readings.{first_limit, within_limits, read_as, reading_of}
 
 is_short_lexeme : BareToken → Bool

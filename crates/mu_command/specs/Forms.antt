@@ -2,9 +2,9 @@
 use Rattle.std.specs.Prelude.{ℕ, ◌==◌, List, [], ◌∷◌, Option, None, option_and_then, find}
 use Rattle.mu_tables.specs.Words.{number_of}
 use Rattle.mu_tables.specs.Tables.{the_forms}
-use Rattle.mu_text.specs.declared.symbol.Word.TheVariants.{Plain}
-use Rattle.mu_text.specs.Lexemes.{Lexeme, word}
-use Rattle.mu_text.specs.Parts.{Out, OneToken, token}
+use Rattle.mu_grammar.specs.declared.symbol.Word.TheVariants.{Plain}
+use Rattle.mu_grammar.specs.Lexemes.{Lexeme, word}
+use Rattle.mu_grammar.specs.Parts.{Out, OneToken, token}
 use Rattle.mu_command.specs.declared.forms.Form.{Form}
 use Rattle.mu_command.specs.declared.forms.Form.TheVariants.{Theory, Constant, Axiom, Rule, Proof, Line, Cite, Status}
 

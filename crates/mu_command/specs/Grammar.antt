@@ -1,13 +1,13 @@
 -- Which tokens are those of a command, and which command that is.
 use Rattle.std.specs.Prelude.{◌≡◌, List, [], ◌∷◌, ◌++◌, Result, codes}
-use Rattle.mu_text.specs.declared.excess.Excess.{Excess}
-use Rattle.mu_text.specs.declared.fault.PartFault.{PartFault}
-use Rattle.mu_text.specs.declared.symbol.Mark.TheVariants.{Colon}
-use Rattle.mu_text.specs.Lexemes.{Lexeme}
-use Rattle.mu_text.specs.Parts.{Out, found, ◌>>=◌, Gives}
-use Rattle.mu_text.specs.Rows.{Values, SpellsRow, read_row, Makes}
-use Rattle.mu_text.specs.Writings.{Writing}
-use Rattle.mu_text.specs.Excesses.{Raising}
+use Rattle.mu_grammar.specs.declared.excess.Excess.{Excess}
+use Rattle.mu_grammar.specs.declared.fault.PartFault.{PartFault}
+use Rattle.mu_grammar.specs.declared.symbol.Mark.TheVariants.{Colon}
+use Rattle.mu_grammar.specs.Lexemes.{Lexeme}
+use Rattle.mu_grammar.specs.Parts.{Out, found, ◌>>=◌, Gives}
+use Rattle.mu_grammar.specs.Rows.{Values, SpellsRow, read_row, Makes}
+use Rattle.mu_grammar.specs.Writings.{Writing}
+use Rattle.mu_grammar.specs.Excesses.{Raising}
 use Rattle.mu_command.specs.declared.command.Command.{Command}
 use Rattle.mu_command.specs.declared.command.Command.TheVariants as command
 use Rattle.mu_command.specs.declared.forms.Form.{Form}

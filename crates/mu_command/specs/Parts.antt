@@ -3,18 +3,18 @@ use Rattle.std.specs.Prelude.{ℕ, List, [], Option, codes}
 use Rattle.mu_tree.specs.declared.trees.Tree.{Tree}
 use Rattle.mu_tree.specs.declared.claim.Claim.{Claim}
 use Rattle.mu_tree.specs.declared.why.Why.{Why}
-use Rattle.mu_text.specs.declared.parts.declarations.DeclaredConstant.{DeclaredConstant}
-use Rattle.mu_text.specs.declared.symbol.Mark.{Mark}
-use Rattle.mu_text.specs.Lexemes.{Lexeme}
-use Rattle.mu_text.specs.Parts.{Out, Same, Then, chain}
-use Rattle.mu_text.specs.SimpleParts.{AnyName, PlainName, GivenMark, GivenWord, StandsName, is_word, read_mark, read_word, read_name, read_plain_name}
-use Rattle.mu_text.specs.Groups.{Optional, optional, StandsOptional}
-use Rattle.mu_text.specs.Declarations.{IsDeclaration, StandsDeclaration, read_declaration}
-use Rattle.mu_text.specs.Writings.{Writing, tree_of}
-use Rattle.mu_text.specs.Trees.{OneTree, read_tree}
-use Rattle.mu_text.specs.Claims.{Sentence, IsClaim, StandsClaim, claim_of, trees_in_claim, read_claim}
-use Rattle.mu_text.specs.Reasons.{Reason, IsReason, StandsReason, why_of, trees_in_reason, read_reason}
-use Rattle.mu_text.specs.Excesses.{StandsTree, one_tree}
+use Rattle.mu_grammar.specs.declared.declared.DeclaredConstant.{DeclaredConstant}
+use Rattle.mu_grammar.specs.declared.symbol.Mark.{Mark}
+use Rattle.mu_grammar.specs.Lexemes.{Lexeme}
+use Rattle.mu_grammar.specs.Parts.{Out, Same, Then, chain}
+use Rattle.mu_grammar.specs.SimpleParts.{AnyName, PlainName, GivenMark, GivenWord, StandsName, is_word, read_mark, read_word, read_name, read_plain_name}
+use Rattle.mu_grammar.specs.Groups.{Optional, optional, StandsOptional}
+use Rattle.mu_grammar.specs.Declarations.{IsDeclaration, StandsDeclaration, read_declaration}
+use Rattle.mu_grammar.specs.Writings.{Writing, tree_of}
+use Rattle.mu_grammar.specs.Trees.{OneTree, read_tree}
+use Rattle.mu_grammar.specs.Claims.{Sentence, IsClaim, StandsClaim, claim_of, trees_in_claim, read_claim}
+use Rattle.mu_grammar.specs.Reasons.{Reason, IsReason, StandsReason, why_of, trees_in_reason, read_reason}
+use Rattle.mu_grammar.specs.Excesses.{StandsTree, one_tree}
 
 -- a name, one of one segment, a word, a mark, the declaration of a constant, the item before which another is put, a tree, a claim, and what a line holds by
 pub data Part : Type 0 where

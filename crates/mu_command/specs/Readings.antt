@@ -2,12 +2,12 @@
 use Rattle.std.specs.Prelude.{◌≡◌, ℕ, ◌-◌, Bool, if◌then◌else◌, List, [], ◌∷◌, length, Option, Some, None}
 use Rattle.mu_tree.specs.declared.refusal.LimitWord.{LimitWord}
 use Rattle.mu_tree.specs.declared.refusal.LimitWord.TheVariants as limit
-use Rattle.mu_text.specs.Tokens.{tokens}
-use Rattle.mu_text.specs.Lexemes.{items_of}
-use Rattle.mu_text.specs.Parts.{Out, found, stopped, Refused}
-use Rattle.mu_text.specs.declared.excess.Excess.{Excess}
-use Rattle.mu_text.specs.Excesses.{excess_of}
-use Rattle.mu_text.specs.Texts.{has_short_tokens, column}
+use Rattle.mu_grammar.specs.Tokens.{tokens}
+use Rattle.mu_grammar.specs.Lexemes.{items_of}
+use Rattle.mu_grammar.specs.Parts.{Out, found, stopped, Refused}
+use Rattle.mu_grammar.specs.declared.excess.Excess.{Excess}
+use Rattle.mu_grammar.specs.Excesses.{excess_of}
+use Rattle.mu_grammar.specs.Texts.{has_short_tokens, column}
 use Rattle.mu_command.specs.declared.command.Command.{Command}
 use Rattle.mu_command.specs.declared.readings.Reading.{Reading}
 use Rattle.mu_command.specs.declared.readings.Reading.TheVariants as reading

@@ -1,9 +1,10 @@
 ghost use Rattle.std.specs.Prelude.{◌≡◌, find};
-ghost use Rattle.mu_text.specs.Parts.{Gives, Same, first_as};
+ghost use Rattle.mu_grammar.specs.Parts.{Gives, Same, first_as};
 ghost use Rattle.mu_command.specs.Forms.{form_of, forms, number, numbered, read_form};
 
 use mu_tables::forms;
-use mu_text::{PartFault, Reader, Sort, Word};
+use mu_grammar::{PartFault, Sort, Word};
+use mu_text::Reader;
 
 /// The forms of commands.
 #[derive(Clone, Copy, Debug, PartialEq, Eq)]

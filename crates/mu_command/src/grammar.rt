@@ -1,18 +1,19 @@
 ghost use Rattle.std.specs.Prelude.{◌≡◌};
-ghost use Rattle.mu_text.specs.Groups.{StandsOptional};
-ghost use Rattle.mu_text.specs.Parts.{Gives};
-ghost use Rattle.mu_text.specs.SimpleParts.{StandsName};
+ghost use Rattle.mu_grammar.specs.Groups.{StandsOptional};
+ghost use Rattle.mu_grammar.specs.Parts.{Gives};
+ghost use Rattle.mu_grammar.specs.SimpleParts.{StandsName};
 ghost use Rattle.mu_command.specs.declared.forms.Form.TheVariants as form;
 ghost use Rattle.mu_command.specs.Parts.{read_before};
 ghost use Rattle.mu_command.specs.Grammar.{GivesCommand, GivesForm, StandsForm, read_parts};
 
 use crate::command::Command;
 use crate::forms::{Form, read_form};
-use mu_text::{Excess, Mark, PartFault, Reader, parts};
+use mu_grammar::{Excess, Mark, PartFault};
+use mu_text::{Reader, parts};
 use mu_tree::Name;
 use std::alloc::Global;
 
-#[tactic(auto, unfolding(crate::specs::Grammar::read_parts, mu_text::specs::Rows::read_row))]
+#[tactic(auto, unfolding(crate::specs::Grammar::read_parts, mu_grammar::specs::Rows::read_row))]
 fn read_theory(alloc: Global, reader: &mut Reader) -> Result<Command, PartFault>
     ensures { Gives (StandsForm form.Theory) (read_parts form.Theory reader.old) result reader.new }
 {
@@ -20,7 +21,7 @@ fn read_theory(alloc: Global, reader: &mut Reader) -> Result<Command, PartFault>
     Ok(Command::Theory { unit })
 }
 
-#[tactic(auto, unfolding(crate::specs::Grammar::read_parts, mu_text::specs::Rows::read_row))]
+#[tactic(auto, unfolding(crate::specs::Grammar::read_parts, mu_grammar::specs::Rows::read_row))]
 fn read_constant(alloc: Global, reader: &mut Reader) -> Result<Command, PartFault>
     ensures { Gives (StandsForm form.Constant) (read_parts form.Constant reader.old) result reader.new }
 {
@@ -34,7 +35,7 @@ fn read_constant(alloc: Global, reader: &mut Reader) -> Result<Command, PartFaul
     })
 }
 
-#[tactic(auto, unfolding(crate::specs::Grammar::read_parts, mu_text::specs::Rows::read_row))]
+#[tactic(auto, unfolding(crate::specs::Grammar::read_parts, mu_grammar::specs::Rows::read_row))]
 fn read_axiom(alloc: Global, reader: &mut Reader, excess: &mut Excess) -> Result<Command, PartFault>
     ensures { GivesForm form.Axiom excess.old excess.new reader.old result reader.new }
 {
@@ -45,7 +46,7 @@ fn read_axiom(alloc: Global, reader: &mut Reader, excess: &mut Excess) -> Result
     Ok(Command::Axiom { unit, rule, claim })
 }
 
-#[tactic(auto, unfolding(crate::specs::Grammar::read_parts, mu_text::specs::Rows::read_row))]
+#[tactic(auto, unfolding(crate::specs::Grammar::read_parts, mu_grammar::specs::Rows::read_row))]
 fn read_rule(alloc: Global, reader: &mut Reader, excess: &mut Excess) -> Result<Command, PartFault>
     ensures { GivesForm form.Rule excess.old excess.new reader.old result reader.new }
 {
@@ -56,7 +57,7 @@ fn read_rule(alloc: Global, reader: &mut Reader, excess: &mut Excess) -> Result<
     Ok(Command::Rule { unit, rule, claim })
 }
 
-#[tactic(auto, unfolding(crate::specs::Grammar::read_parts, mu_text::specs::Rows::read_row))]
+#[tactic(auto, unfolding(crate::specs::Grammar::read_parts, mu_grammar::specs::Rows::read_row))]
 fn read_proof(alloc: Global, reader: &mut Reader) -> Result<Command, PartFault>
     ensures { Gives (StandsForm form.Proof) (read_parts form.Proof reader.old) result reader.new }
 {
@@ -78,7 +79,7 @@ fn read_before(alloc: Global, reader: &mut Reader) -> Result<Option<Name>, PartF
     Ok(Some(name))
 }
 
-#[tactic(auto, unfolding(crate::specs::Grammar::read_parts, mu_text::specs::Rows::read_row))]
+#[tactic(auto, unfolding(crate::specs::Grammar::read_parts, mu_grammar::specs::Rows::read_row))]
 fn read_line(alloc: Global, reader: &mut Reader, excess: &mut Excess) -> Result<Command, PartFault>
     ensures { GivesForm form.Line excess.old excess.new reader.old result reader.new }
 {
@@ -100,7 +101,7 @@ fn read_line(alloc: Global, reader: &mut Reader, excess: &mut Excess) -> Result<
     })
 }
 
-#[tactic(auto, unfolding(crate::specs::Grammar::read_parts, mu_text::specs::Rows::read_row))]
+#[tactic(auto, unfolding(crate::specs::Grammar::read_parts, mu_grammar::specs::Rows::read_row))]
 fn read_cite(alloc: Global, reader: &mut Reader, excess: &mut Excess) -> Result<Command, PartFault>
     ensures { GivesForm form.Cite excess.old excess.new reader.old result reader.new }
 {
@@ -117,7 +118,7 @@ fn read_cite(alloc: Global, reader: &mut Reader, excess: &mut Excess) -> Result<
     })
 }
 
-#[tactic(auto, unfolding(crate::specs::Grammar::read_parts, mu_text::specs::Rows::read_row))]
+#[tactic(auto, unfolding(crate::specs::Grammar::read_parts, mu_grammar::specs::Rows::read_row))]
 fn read_status(alloc: Global, reader: &mut Reader) -> Result<Command, PartFault>
     ensures { Gives (StandsForm form.Status) (read_parts form.Status reader.old) result reader.new }
 {

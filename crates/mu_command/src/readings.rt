@@ -1,11 +1,12 @@
 ghost use Rattle.std.specs.Prelude.{◌≡◌, ◌-◌, ◌<◌, ◌^◌, length, IfOk};
 ghost use Rattle.mu_command.specs.declared.readings.Reading.TheVariants as Reading;
-ghost use Rattle.mu_text.specs.Texts.{AreWithin, column};
+ghost use Rattle.mu_grammar.specs.Texts.{AreWithin, column};
 ghost use Rattle.mu_command.specs.Readings.{ReadingIsExact, first_limit, reading_of, within_limits};
 
 use crate::command::Command;
 use crate::grammar::read_command;
-use mu_text::{Excess, PartFault, Reader, Token, Tokens, are_short, column};
+use mu_grammar::{Excess, PartFault, Token};
+use mu_text::{Reader, Tokens, are_short, column};
 use mu_tree::{LimitWord, NoMemory};
 use std::alloc::Global;
 

@@ -1,9 +1,9 @@
 -- What calls of readers give together.
 use Rattle.std.proofs.Common.{List, ap, sym, subst}
 use Rattle.std.specs.Prelude.{Result}
-use Rattle.mu_text.specs.declared.fault.PartFault.{PartFault}
-use Rattle.mu_text.specs.Lexemes.{Lexeme}
-use Rattle.mu_text.specs.Parts.{Out, found, ◌>>=◌, Read, Gives, chain, mapped}
+use Rattle.mu_grammar.specs.declared.fault.PartFault.{PartFault}
+use Rattle.mu_grammar.specs.Lexemes.{Lexeme}
+use Rattle.mu_grammar.specs.Parts.{Out, found, ◌>>=◌, Read, Gives, chain, mapped}
 
 -- the same value stands by another relation
 pub kept : {A B C : Type 0} {S : A → B → Type 0} {T : A → C → Type 0} {out : Out A} {y : B} {z : C} {rest : List Lexeme} → Read S out y rest → ((x : A) → S x y → T x z) → Read T out z rest

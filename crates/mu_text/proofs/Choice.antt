@@ -1,8 +1,8 @@
 -- A choice by the first token.
 use Rattle.std.proofs.Common.{◌≡◌, List, [], ◌∷◌, ◌++◌, Bool, true, false, inl, inr, refl, ap, ◌∙◌, subst}
 use Rattle.std.specs.Prelude.{if◌then◌else◌}
-use Rattle.mu_text.specs.Lexemes.{Lexeme}
-use Rattle.mu_text.specs.Parts.{Out, found, stopped, Or, either}
+use Rattle.mu_grammar.specs.Lexemes.{Lexeme}
+use Rattle.mu_grammar.specs.Parts.{Out, found, stopped, Or, either}
 use Rattle.mu_text.proofs.Exact.{Exact, Answered}
 
 -- the first token, if there is one, passes no test

@@ -1,17 +1,17 @@
 -- Claims are read exactly.
 use Rattle.std.proofs.Common.{◌≡◌, true, List, [], ◌∷◌, ◌++◌, inl, inr, refl, ap, sym, ◌∙◌, subst, append_assoc, append-nil}
-use Rattle.mu_text.specs.declared.symbol.Mark.{Mark}
-use Rattle.mu_text.specs.declared.symbol.Mark.TheVariants.{Semicolon, Turnstile}
-use Rattle.mu_text.specs.Lexemes.{Lexeme, mark}
-use Rattle.mu_text.specs.Parts.{Nothing, given_back, Then, chain, Made, mapped, Or, More, StandsEach, read_more}
-use Rattle.mu_text.specs.SimpleParts.{GivenMark, read_mark}
-use Rattle.mu_text.specs.Writings.{Writing}
-use Rattle.mu_text.specs.Trees.{OneTree, read_tree}
-use Rattle.mu_text.specs.Claims.{Hypothesis, plain, Sentence, IsHypothesis, IsClaim, StandsHypothesis, StandsClaim, trees_in_hypothesis, trees_in_claim, goes_on, concluding, read_hypothesis, read_hypotheses, read_concluded, read_after, read_claim}
-use Rattle.mu_text.specs.declared.excess.Excess.{Excess}
+use Rattle.mu_grammar.specs.declared.symbol.Mark.{Mark}
+use Rattle.mu_grammar.specs.declared.symbol.Mark.TheVariants.{Semicolon, Turnstile}
+use Rattle.mu_grammar.specs.Lexemes.{Lexeme, mark}
+use Rattle.mu_grammar.specs.Parts.{Nothing, given_back, Then, chain, Made, mapped, Or, More, StandsEach, read_more}
+use Rattle.mu_grammar.specs.SimpleParts.{GivenMark, read_mark}
+use Rattle.mu_grammar.specs.Writings.{Writing}
+use Rattle.mu_grammar.specs.Trees.{OneTree, read_tree}
+use Rattle.mu_grammar.specs.Claims.{Hypothesis, plain, Sentence, IsHypothesis, IsClaim, StandsHypothesis, StandsClaim, trees_in_hypothesis, trees_in_claim, goes_on, concluding, read_hypothesis, read_hypotheses, read_concluded, read_after, read_claim}
+use Rattle.mu_grammar.specs.declared.excess.Excess.{Excess}
 use Rattle.mu_tree.specs.declared.claim.Hyp.{Hyp}
 use Rattle.mu_tree.specs.declared.trees.Tree.{Tree}
-use Rattle.mu_text.specs.Excesses.{raised, in_each, one_tree, Raising, StandsTree}
+use Rattle.mu_grammar.specs.Excesses.{raised, in_each, one_tree, Raising, StandsTree}
 use Rattle.mu_text.proofs.Excesses.{raised-append}
 use Rattle.mu_text.proofs.Choice.{Passes, Fails, Exact-either}
 use Rattle.mu_text.proofs.Complete.{Follows, MayFollow, plain_follows}

@@ -2,19 +2,19 @@
 use Rattle.std.proofs.Common.{◌≡◌, ℕ, ◌+◌, ◌-◌, ◌<◌, ◌≤◌, List, [], ◌∷◌, ◌++◌, Option, Some, None, Bool, true, false, ◌⊎◌, refl, ap, ◌∙◌, subst, append_assoc, arith, inl, inr}
 use Rattle.std.specs.Prelude.{nat_le}
 use Rattle.std.proofs.lemmas.Bool.Decides.{nat_tests}
-use Rattle.mu_text.specs.declared.symbol.Word.{Word}
-use Rattle.mu_text.specs.declared.symbol.Word.TheVariants.{Plain, Dotted, True, Meta, Place}
-use Rattle.mu_text.specs.declared.symbol.Mark.{Mark}
-use Rattle.mu_text.specs.declared.symbol.Mark.TheVariants.{And, Or, Not, Iff, Imp, Eq, Colon, Open, Close, OpenBracket, CloseBracket, OpenBrace, CloseBrace, Comma, Dot}
-use Rattle.mu_text.specs.declared.way.Beginning.TheVariants as begins
-use Rattle.mu_text.specs.declared.way.Opening.TheVariants as opens
-use Rattle.mu_text.specs.declared.way.Ending.TheVariants as ends
-use Rattle.mu_text.specs.declared.ops.Op.{Op}
-use Rattle.mu_text.specs.declared.ops.Side.TheVariants.{Neither, Left, Right}
-use Rattle.mu_text.specs.Lexemes.{Lexeme, word, mark}
-use Rattle.mu_text.specs.Ops.{row, binary, prefix_level, atom_level}
-use Rattle.mu_text.specs.Writings.{Writing, Writings, leaf, apply, bind, paren, neg, bin, one, more, level, tokens, tokens_of, Fits, FitsAll, is_head, is_binder, opener, closer}
-use Rattle.mu_text.specs.Machine.{Stack, right, negated, inside, given, domain, body, fill, Mode, want, named, binding, have, Next, go, open_levels, after, close, close_given, beginning, opening, ending, begin, after_name, step, run}
+use Rattle.mu_grammar.specs.declared.symbol.Word.{Word}
+use Rattle.mu_grammar.specs.declared.symbol.Word.TheVariants.{Plain, Dotted, True, Meta, Place}
+use Rattle.mu_grammar.specs.declared.symbol.Mark.{Mark}
+use Rattle.mu_grammar.specs.declared.symbol.Mark.TheVariants.{And, Or, Not, Iff, Imp, Eq, Colon, Open, Close, OpenBracket, CloseBracket, OpenBrace, CloseBrace, Comma, Dot}
+use Rattle.mu_grammar.specs.declared.way.Beginning.TheVariants as begins
+use Rattle.mu_grammar.specs.declared.way.Opening.TheVariants as opens
+use Rattle.mu_grammar.specs.declared.way.Ending.TheVariants as ends
+use Rattle.mu_grammar.specs.declared.ops.Op.{Op}
+use Rattle.mu_tables.specs.declared.ops.Side.TheVariants.{Neither, Left, Right}
+use Rattle.mu_grammar.specs.Lexemes.{Lexeme, word, mark}
+use Rattle.mu_grammar.specs.Ops.{row, binary, prefix_level, atom_level}
+use Rattle.mu_grammar.specs.Writings.{Writing, Writings, leaf, apply, bind, paren, neg, bin, one, more, level, tokens, tokens_of, Fits, FitsAll, is_head, is_binder, opener, closer}
+use Rattle.mu_grammar.specs.Machine.{Stack, right, negated, inside, given, domain, body, fill, Mode, want, named, binding, have, Next, go, open_levels, after, close, close_given, beginning, opening, ending, begin, after_name, step, run}
 
 -- what every row of the table keeps
 pub record Shape (p : Op) : Type 0 where

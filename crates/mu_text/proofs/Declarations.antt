@@ -3,14 +3,14 @@ use Rattle.std.proofs.Common.{◌≡◌, ℕ, List, [], ◌∷◌, ◌++◌, inl
 use Rattle.mu_tree.specs.declared.claim.Kind.{Kind}
 use Rattle.mu_tree.specs.declared.claim.Shape.{Shape}
 use Rattle.mu_tree.specs.declared.claim.Shape.TheVariants as shape
-use Rattle.mu_text.specs.declared.parts.declarations.DeclaredConstant.{DeclaredConstant}
-use Rattle.mu_text.specs.declared.symbol.Mark.TheVariants.{OpenBrace, CloseBrace, Arrow}
-use Rattle.mu_text.specs.Lexemes.{Lexeme, mark}
-use Rattle.mu_text.specs.Marks.{is_mark}
-use Rattle.mu_text.specs.Parts.{Then, chain, Made, mapped, Or}
-use Rattle.mu_text.specs.SimpleParts.{PlainName, GivenMark, OneKind, read_plain_name, read_mark, read_kind}
-use Rattle.mu_text.specs.Groups.{Enclosed, enclosed, ArgumentKinds, read_argument_kinds}
-use Rattle.mu_text.specs.Declarations.{IsShape, IsDeclaration, declaring, read_shape, read_declaration}
+use Rattle.mu_grammar.specs.declared.declared.DeclaredConstant.{DeclaredConstant}
+use Rattle.mu_grammar.specs.declared.symbol.Mark.TheVariants.{OpenBrace, CloseBrace, Arrow}
+use Rattle.mu_grammar.specs.Lexemes.{Lexeme, mark}
+use Rattle.mu_grammar.specs.Marks.{is_mark}
+use Rattle.mu_grammar.specs.Parts.{Then, chain, Made, mapped, Or}
+use Rattle.mu_grammar.specs.SimpleParts.{PlainName, GivenMark, OneKind, read_plain_name, read_mark, read_kind}
+use Rattle.mu_grammar.specs.Groups.{Enclosed, enclosed, ArgumentKinds, read_argument_kinds}
+use Rattle.mu_grammar.specs.Declarations.{IsShape, IsDeclaration, declaring, read_shape, read_declaration}
 use Rattle.mu_text.proofs.Choice.{Fails, Exact-either}
 use Rattle.mu_text.proofs.Exact.{Exact, Exact-same, Exact-chain, Exact-mapped, Exact-before}
 use Rattle.mu_text.proofs.Groups.{NoOpen, Exact-enclosed, enclosed_passes, Exact-argument_kinds}

@@ -5,8 +5,8 @@ use Rattle.std.specs.List.{list_all}
 use Rattle.std.proofs.lemmas.Bool.{and_parts}
 use Rattle.std.proofs.lemmas.Bool.Decides.{nat_tests}
 use Rattle.mu_tree.specs.Names.{is_digit}
-use Rattle.mu_text.specs.Reading.{starts_positive}
-use Rattle.mu_text.specs.SimpleParts.{is_number}
+use Rattle.mu_grammar.specs.Reading.{starts_positive}
+use Rattle.mu_grammar.specs.SimpleParts.{is_number}
 
 -- the number with this many nines behind it
 abbrev pub filled : ℕ → ℕ → ℕ

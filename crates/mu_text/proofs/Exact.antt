@@ -1,7 +1,7 @@
 -- A reader that is exact, online and always within reach of some spelling; how such readers join.
 use Rattle.std.proofs.Common.{◌≡◌, ◌+◌, ◌≤◌, List, [], ◌∷◌, ◌++◌, length, Option, Some, None, refl, ap, sym, ◌∙◌, subst, append_assoc, append-nil, length-append, arith}
-use Rattle.mu_text.specs.Lexemes.{Lexeme}
-use Rattle.mu_text.specs.Parts.{Begins, Out, found, stopped, ◌>>=◌, taken, token, OneToken, Nothing, given_back, End, at_end, Then, chain, Made, mapped}
+use Rattle.mu_grammar.specs.Lexemes.{Lexeme}
+use Rattle.mu_grammar.specs.Parts.{Begins, Out, found, stopped, ◌>>=◌, taken, token, OneToken, Nothing, given_back, End, at_end, Then, chain, Made, mapped}
 
 abbrev pub Answered : {A : Type 0} → (List Lexeme → Out A) → (List Lexeme → A → Type 0) → List Lexeme → Out A → Type 0
 Answered p G ts (found x rest) =

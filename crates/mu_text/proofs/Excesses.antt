@@ -5,13 +5,13 @@ use Rattle.std.specs.List.{list_any, AllByRecursion}
 use Rattle.std.proofs.lemmas.Bool.Decides.{nat_tests}
 use Rattle.std.proofs.lemmas.List.Folds.{list_any-append}
 use Rattle.mu_text.specs.declared.operand.Operand.{Operand}
-use Rattle.mu_text.specs.declared.excess.Excess.{Excess}
-use Rattle.mu_text.specs.Lexemes.{Lexeme}
-use Rattle.mu_text.specs.Parts.{Out, Read, StandsEach}
-use Rattle.mu_text.specs.Writings.{Writing, nodes, deep, Short, Kept}
+use Rattle.mu_grammar.specs.declared.excess.Excess.{Excess}
+use Rattle.mu_grammar.specs.Lexemes.{Lexeme}
+use Rattle.mu_grammar.specs.Parts.{Out, Read, StandsEach}
+use Rattle.mu_grammar.specs.Writings.{Writing, nodes, deep, Short, Kept}
 use Rattle.mu_text.specs.Reads.{capped, Stands}
 use Rattle.mu_text.proofs.Turns.{each_more}
-use Rattle.mu_text.specs.Excesses.{is_large, is_deep, excess_of, no_excess, raised, in_each, one_tree, Raising, StandsTree}
+use Rattle.mu_grammar.specs.Excesses.{is_large, is_deep, excess_of, no_excess, raised, in_each, one_tree, Raising, StandsTree}
 
 or_assoc : (a b c : Bool) → ((a || b) || c) ≡ (a || (b || c))
 or_assoc true b c = refl

@@ -4,11 +4,11 @@ use Rattle.std.specs.List.{AllByRecursion, Contains}
 use Rattle.std.proofs.lemmas.Bool.{cases_lt}
 use Rattle.std.proofs.lemmas.List.Elements.{All-contains, All-from_recursion}
 use Rattle.mu_tree.specs.Names.{is_name}
-use Rattle.mu_text.specs.declared.token.TokenSort.{TokenSort}
-use Rattle.mu_text.specs.declared.token.TokenSort.TheVariants.{Name, Meta, Place, Symbol, Wrong}
-use Rattle.mu_text.specs.declared.token.Token.{Token}
-use Rattle.mu_text.specs.Reading.{starts_visible, is_meta, is_place, is_symbol, is_spelled, IsFront, IsFirstToken, AreTokensFrom, text_of}
-use Rattle.mu_text.specs.Tokens.{tokens}
+use Rattle.mu_grammar.specs.declared.token.TokenSort.{TokenSort}
+use Rattle.mu_grammar.specs.declared.token.TokenSort.TheVariants.{Name, Meta, Place, Symbol, Wrong}
+use Rattle.mu_grammar.specs.declared.token.Token.{Token}
+use Rattle.mu_grammar.specs.Reading.{starts_visible, is_meta, is_place, is_symbol, is_spelled, IsFront, IsFirstToken, AreTokensFrom, text_of}
+use Rattle.mu_grammar.specs.Tokens.{tokens}
 use Rattle.mu_text.proofs.Longest.{empty_front}
 use Rattle.mu_text.proofs.Kept.{tokens_are}
 

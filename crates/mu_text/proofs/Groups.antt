@@ -1,12 +1,12 @@
 -- Parts made of others are read exactly.
 use Rattle.std.proofs.Common.{◌≡◌, Bool, List, [], ◌∷◌, ◌++◌, Option, Some, None, inl, inr, refl, ap, sym, ◌∙◌, subst, append-nil}
-use Rattle.mu_text.specs.declared.symbol.Mark.{Mark}
-use Rattle.mu_text.specs.declared.symbol.Mark.TheVariants.{Open, Close, OpenBracket, CloseBracket}
-use Rattle.mu_text.specs.Lexemes.{Lexeme, mark}
-use Rattle.mu_text.specs.Marks.{is_mark}
-use Rattle.mu_text.specs.Parts.{Out, Nothing, given_back, Then, chain, Or}
-use Rattle.mu_text.specs.SimpleParts.{GivenMark, SomeKinds, SomeVars, read_mark, read_kinds, read_vars}
-use Rattle.mu_text.specs.Groups.{Enclosed, enclosed, Optional, optional, Bracketed, bracketed, ArgumentKinds, read_argument_kinds, Parameters, read_parameters}
+use Rattle.mu_grammar.specs.declared.symbol.Mark.{Mark}
+use Rattle.mu_grammar.specs.declared.symbol.Mark.TheVariants.{Open, Close, OpenBracket, CloseBracket}
+use Rattle.mu_grammar.specs.Lexemes.{Lexeme, mark}
+use Rattle.mu_grammar.specs.Marks.{is_mark}
+use Rattle.mu_grammar.specs.Parts.{Out, Nothing, given_back, Then, chain, Or}
+use Rattle.mu_grammar.specs.SimpleParts.{GivenMark, SomeKinds, SomeVars, read_mark, read_kinds, read_vars}
+use Rattle.mu_grammar.specs.Groups.{Enclosed, enclosed, Optional, optional, Bracketed, bracketed, ArgumentKinds, read_argument_kinds, Parameters, read_parameters}
 use Rattle.mu_text.proofs.Marks.{own_mark}
 use Rattle.mu_text.proofs.Choice.{Passes, Fails, Exact-either}
 use Rattle.mu_text.proofs.Exact.{Exact, Exact-same, Exact-chain, Exact-pure, Exact-before}

@@ -3,9 +3,9 @@ use Rattle.std.proofs.Common.{◌≡◌, ℕ, zero, suc, ◌+◌, ◌-◌, true,
 use Rattle.std.specs.List.{list_all}
 use Rattle.std.proofs.lemmas.Bool.{and_from, cond_both}
 use Rattle.std.proofs.lemmas.List.{drop-drop}
-use Rattle.mu_text.specs.declared.token.Token.{Token}
-use Rattle.mu_text.specs.Reading.{is_blank, IsFirstToken, AreTokensFrom, AreTokens}
-use Rattle.mu_text.specs.Tokens.{first_token, tokens_from, tokens}
+use Rattle.mu_grammar.specs.declared.token.Token.{Token}
+use Rattle.mu_grammar.specs.Reading.{is_blank, IsFirstToken, AreTokensFrom, AreTokens}
+use Rattle.mu_grammar.specs.Tokens.{first_token, tokens_from, tokens}
 use Rattle.mu_text.proofs.Longest.{first_token_is}
 use Rattle.mu_text.proofs.Skips.{token_at}
 

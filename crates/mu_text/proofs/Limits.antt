@@ -11,22 +11,22 @@ use Rattle.mu_tree.specs.declared.why.Ref.{Ref}
 use Rattle.mu_tree.specs.declared.why.Ref.TheVariants as ref
 use Rattle.mu_tree.specs.declared.why.Given.{Given}
 use Rattle.mu_tree.specs.declared.why.Why.TheVariants as why
-use Rattle.mu_text.specs.declared.symbol.Word.{Word}
-use Rattle.mu_text.specs.declared.symbol.Word.TheVariants.{Plain, Dotted, True, Meta, Place}
-use Rattle.mu_text.specs.declared.symbol.Mark.{Mark}
-use Rattle.mu_text.specs.declared.symbol.Mark.TheVariants.{And, Or, Not, Comma, Semicolon, CloseBracket, Close, CloseBrace, Dot, Becomes, Turnstile, Arrow}
-use Rattle.mu_text.specs.Lexemes.{Lexeme, word, mark}
-use Rattle.mu_text.specs.Parts.{More, Separated, StandsEach}
-use Rattle.mu_text.specs.SimpleParts.{plain_name_of, name_of, var_of, meta_of, PlainName, AnyName, VarName, MetaName, StandsName}
-use Rattle.mu_text.specs.Groups.{Parameters}
-use Rattle.mu_text.specs.Writings.{Writing, Writings, leaf, apply, bind, paren, neg, bin, one, more, tokens, tokens_of, closer, is_head, Fits, FitsAll, Short, ShortAll, tree_of}
-use Rattle.mu_text.specs.Trees.{OneTree}
-use Rattle.mu_text.specs.References.{IsReference, StandsReference}
-use Rattle.mu_text.specs.Claims.{Hypothesis, plain, IsHypothesis, Claims, IsClaim, StandsHypothesis, StandsClaim, hyp_of, claim_of, trees_in_hypothesis, trees_in_claim}
-use Rattle.mu_text.specs.Reasons.{AbstractionWriting, IsAbstraction, StandsAbstraction, given_of, trees_in_abstraction, by_rule, Led, IsReason, StandsReason, why_of, trees_in_reason}
-use Rattle.mu_text.specs.Declarations.{IsDeclaration, StandsDeclaration}
-use Rattle.mu_text.specs.Excesses.{excess_of, no_excess, in_each, one_tree, StandsTree}
-use Rattle.mu_text.specs.Limits.{is_within, WithinToken, WithinTokens, KeepsNames, IsMeant, no_trees}
+use Rattle.mu_grammar.specs.declared.symbol.Word.{Word}
+use Rattle.mu_grammar.specs.declared.symbol.Word.TheVariants.{Plain, Dotted, True, Meta, Place}
+use Rattle.mu_grammar.specs.declared.symbol.Mark.{Mark}
+use Rattle.mu_grammar.specs.declared.symbol.Mark.TheVariants.{And, Or, Not, Comma, Semicolon, CloseBracket, Close, CloseBrace, Dot, Becomes, Turnstile, Arrow}
+use Rattle.mu_grammar.specs.Lexemes.{Lexeme, word, mark}
+use Rattle.mu_grammar.specs.Parts.{More, Separated, StandsEach}
+use Rattle.mu_grammar.specs.SimpleParts.{plain_name_of, name_of, var_of, meta_of, PlainName, AnyName, VarName, MetaName, StandsName}
+use Rattle.mu_grammar.specs.Groups.{Parameters}
+use Rattle.mu_grammar.specs.Writings.{Writing, Writings, leaf, apply, bind, paren, neg, bin, one, more, tokens, tokens_of, closer, is_head, Fits, FitsAll, Short, ShortAll, tree_of}
+use Rattle.mu_grammar.specs.Trees.{OneTree}
+use Rattle.mu_grammar.specs.References.{IsReference, StandsReference}
+use Rattle.mu_grammar.specs.Claims.{Hypothesis, plain, IsHypothesis, Claims, IsClaim, StandsHypothesis, StandsClaim, hyp_of, claim_of, trees_in_hypothesis, trees_in_claim}
+use Rattle.mu_grammar.specs.Reasons.{AbstractionWriting, IsAbstraction, StandsAbstraction, given_of, trees_in_abstraction, by_rule, Led, IsReason, StandsReason, why_of, trees_in_reason}
+use Rattle.mu_grammar.specs.Declarations.{IsDeclaration, StandsDeclaration}
+use Rattle.mu_grammar.specs.Excesses.{excess_of, no_excess, in_each, one_tree, StandsTree}
+use Rattle.mu_grammar.specs.Limits.{is_within, WithinToken, WithinTokens, KeepsNames, IsMeant, no_trees}
 use Rattle.mu_text.proofs.Complete.{binder_head}
 use Rattle.mu_text.proofs.Excesses.{all_parts, none_together, tree_kept}
 

@@ -8,24 +8,24 @@ use Rattle.std.proofs.lemmas.List.Splits.{slice_split_none}
 use Rattle.std.proofs.lemmas.List.{length-map}
 use Rattle.std.proofs.lemmas.List.Elements.{All-from_recursion}
 use Rattle.mu_tree.specs.Names.{IsName, is_letter, is_name_byte, is_segment, is_name, is_short, segments}
-use Rattle.mu_text.specs.declared.symbol.Word.TheVariants as word
-use Rattle.mu_text.specs.declared.symbol.Sort.{Sort}
-use Rattle.mu_text.specs.declared.symbol.Sort.TheVariants as sort
-use Rattle.mu_text.specs.declared.token.Token.{Token}
-use Rattle.mu_text.specs.declared.token.TokenSort.{TokenSort}
-use Rattle.mu_text.specs.declared.token.TokenSort.TheVariants.{Name, Meta, Place, Symbol, Wrong}
-use Rattle.mu_text.specs.declared.fault.PartFault.{PartFault}
-use Rattle.mu_text.specs.declared.fault.PartFault.TheVariants as part
-use Rattle.mu_text.specs.declared.texts.TextFault.TheVariants as fault
-use Rattle.mu_text.specs.declared.excess.Excess.{Excess}
-use Rattle.mu_text.specs.Reading.{text_of, is_meta}
-use Rattle.mu_text.specs.Tokens.{tokens}
-use Rattle.mu_text.specs.Lexemes.{Lexeme, item, items, items_of, item_of, sort_in, word_in}
-use Rattle.mu_text.specs.Parts.{Out, Read, Gives, Refused, End}
-use Rattle.mu_text.specs.Writings.{Writing}
-use Rattle.mu_text.specs.Excesses.{excess_of, no_excess, Raising}
-use Rattle.mu_text.specs.Limits.{WithinToken, WithinTokens, IsMeant}
-use Rattle.mu_text.specs.Texts.{segments_of, is_short_token, has_short_tokens, AreWithin, column, ReadsText, within_limits, answer}
+use Rattle.mu_grammar.specs.declared.symbol.Word.TheVariants as word
+use Rattle.mu_grammar.specs.declared.symbol.Sort.{Sort}
+use Rattle.mu_grammar.specs.declared.symbol.Sort.TheVariants as sort
+use Rattle.mu_grammar.specs.declared.token.Token.{Token}
+use Rattle.mu_grammar.specs.declared.token.TokenSort.{TokenSort}
+use Rattle.mu_grammar.specs.declared.token.TokenSort.TheVariants.{Name, Meta, Place, Symbol, Wrong}
+use Rattle.mu_grammar.specs.declared.fault.PartFault.{PartFault}
+use Rattle.mu_grammar.specs.declared.fault.PartFault.TheVariants as part
+use Rattle.mu_grammar.specs.declared.fault.TextFault.TheVariants as fault
+use Rattle.mu_grammar.specs.declared.excess.Excess.{Excess}
+use Rattle.mu_grammar.specs.Reading.{text_of, is_meta}
+use Rattle.mu_grammar.specs.Tokens.{tokens}
+use Rattle.mu_grammar.specs.Lexemes.{Lexeme, item, items, items_of, item_of, sort_in, word_in}
+use Rattle.mu_grammar.specs.Parts.{Out, Read, Gives, Refused, End}
+use Rattle.mu_grammar.specs.Writings.{Writing}
+use Rattle.mu_grammar.specs.Excesses.{excess_of, no_excess, Raising}
+use Rattle.mu_grammar.specs.Limits.{WithinToken, WithinTokens, IsMeant}
+use Rattle.mu_grammar.specs.Texts.{segments_of, is_short_token, has_short_tokens, AreWithin, column, ReadsText, within_limits, answer}
 use Rattle.mu_text.proofs.Exact.{Exact}
 use Rattle.mu_text.proofs.Excesses.{raised-none}
 use Rattle.mu_text.proofs.Facts.{IsTokenOf, tokens_hold}

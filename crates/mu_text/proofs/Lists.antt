@@ -1,10 +1,10 @@
 -- Lists with a mark between their items.
 use Rattle.std.proofs.Common.{◌≡◌, ℕ, zero, suc, ◌+◌, ◌≤◌, List, [], ◌∷◌, ◌++◌, length, Bool, true, false, refl, ap, sym, ◌∙◌, subst, append_assoc, append-nil, length-append, arith}
 use Rattle.std.specs.Prelude.{if◌then◌else◌}
-use Rattle.mu_text.specs.Lexemes.{Lexeme, mark}
-use Rattle.mu_text.specs.declared.symbol.Mark.{Mark}
-use Rattle.mu_text.specs.Marks.{is_mark}
-use Rattle.mu_text.specs.Parts.{Begins, Out, found, stopped, ◌>>=◌, Nothing, given_back, Then, chain, More, Separated, with_first, more_of, read_more, separated}
+use Rattle.mu_grammar.specs.Lexemes.{Lexeme, mark}
+use Rattle.mu_grammar.specs.declared.symbol.Mark.{Mark}
+use Rattle.mu_grammar.specs.Marks.{is_mark}
+use Rattle.mu_grammar.specs.Parts.{Begins, Out, found, stopped, ◌>>=◌, Nothing, given_back, Then, chain, More, Separated, with_first, more_of, read_more, separated}
 use Rattle.mu_text.proofs.Marks.{own_mark, only_mark}
 use Rattle.mu_text.proofs.Exact.{Exact, Answered, Exact-same, Exact-chain, Exact-pure}
 use Rattle.mu_text.proofs.Choice.{Fails}

@@ -7,10 +7,10 @@ use Rattle.std.proofs.lemmas.Bool.Decides.{nat_tests}
 use Rattle.std.proofs.lemmas.List.{length-take-le}
 use Rattle.std.proofs.lemmas.List.Sums.{prefix_len-le-length}
 use Rattle.mu_tree.specs.Names.{is_letter, is_digit, is_name_byte, is_segment, segments, are_segments}
-use Rattle.mu_text.specs.declared.token.TokenSort.{TokenSort}
-use Rattle.mu_text.specs.declared.token.TokenSort.TheVariants.{Name, Meta, Place, Symbol, Wrong}
-use Rattle.mu_text.specs.Reading.{is_blank, starts_positive, is_symbol, is_meta, is_place, IsFront, IsFirstToken}
-use Rattle.mu_text.specs.Tokens.{starts_letter, run_length, dots, name_sort, is_arrow, is_pair, is_single, first_token}
+use Rattle.mu_grammar.specs.declared.token.TokenSort.{TokenSort}
+use Rattle.mu_grammar.specs.declared.token.TokenSort.TheVariants.{Name, Meta, Place, Symbol, Wrong}
+use Rattle.mu_grammar.specs.Reading.{is_blank, starts_positive, is_symbol, is_meta, is_place, IsFront, IsFirstToken}
+use Rattle.mu_grammar.specs.Tokens.{starts_letter, run_length, dots, name_sort, is_arrow, is_pair, is_single, first_token}
 use Rattle.mu_text.proofs.Fronts.{prefix_len-yes, list_all-take_prefix, list_all-take_shorter, prefix_len-longest}
 use Rattle.mu_text.proofs.Runs.{letter_is_name_byte, are_segments-letter, letter_first, is_rest-take_run, run_length-longest, run_length-le, length-segments}
 

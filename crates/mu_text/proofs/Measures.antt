@@ -6,11 +6,11 @@ use Rattle.mu_tree.specs.declared.trees.Tree.{Tree}
 use Rattle.mu_tree.specs.declared.trees.Tree.TheVariants as tree
 use Rattle.mu_tree.specs.declared.trees.Tree.TheOpen.{App, Meta, Bind}
 use Rattle.mu_tree.specs.declared.trees.Tree.TheFolds.{fold-roll-Tree}
-use Rattle.mu_text.specs.declared.symbol.Word.{Word}
-use Rattle.mu_text.specs.declared.symbol.Word.TheVariants as word
-use Rattle.mu_text.specs.declared.symbol.Mark.TheVariants.{Not}
-use Rattle.mu_text.specs.Ops.{constant_of}
-use Rattle.mu_text.specs.Writings.{Writing, Writings, leaf, apply, bind, paren, neg, bin, one, more, made, tree_of, trees_of, nodes, nodes_of, deep, deep_of}
+use Rattle.mu_grammar.specs.declared.symbol.Word.{Word}
+use Rattle.mu_grammar.specs.declared.symbol.Word.TheVariants as word
+use Rattle.mu_grammar.specs.declared.symbol.Mark.TheVariants.{Not}
+use Rattle.mu_grammar.specs.Ops.{constant_of}
+use Rattle.mu_grammar.specs.Writings.{Writing, Writings, leaf, apply, bind, paren, neg, bin, one, more, made, tree_of, trees_of, nodes, nodes_of, deep, deep_of}
 
 size-app : (name : List ℕ) (ts : List Tree) → size (tree.App name ts) ≡ sum (map size ts) + 1
 size-app name ts = ap size (sym (tree.rolls-App name ts)) ∙ fold-roll-Tree ℕ size_step (App name ts)

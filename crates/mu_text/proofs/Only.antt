@@ -6,11 +6,11 @@ use Rattle.std.proofs.lemmas.Bool.{and_parts, leb-true, le-leb, lt-leb, ltb-true
 use Rattle.std.proofs.lemmas.Bool.Decides.{nat_tests}
 use Rattle.std.proofs.lemmas.List.{drop-drop}
 use Rattle.mu_tree.specs.Names.{is_letter, is_digit, is_segment, segments, are_segments}
-use Rattle.mu_text.specs.declared.token.TokenSort.{TokenSort}
-use Rattle.mu_text.specs.declared.token.TokenSort.TheVariants.{Name, Meta, Place, Symbol, Wrong}
-use Rattle.mu_text.specs.declared.token.Token.{Token}
-use Rattle.mu_text.specs.Reading.{is_blank, starts_visible, starts_positive, is_symbol, is_place, is_spelled, IsFirstToken, AreTokensFrom, AreTokens}
-use Rattle.mu_text.specs.Tokens.{dots, name_sort, tokens}
+use Rattle.mu_grammar.specs.declared.token.TokenSort.{TokenSort}
+use Rattle.mu_grammar.specs.declared.token.TokenSort.TheVariants.{Name, Meta, Place, Symbol, Wrong}
+use Rattle.mu_grammar.specs.declared.token.Token.{Token}
+use Rattle.mu_grammar.specs.Reading.{is_blank, starts_visible, starts_positive, is_symbol, is_place, is_spelled, IsFirstToken, AreTokensFrom, AreTokens}
+use Rattle.mu_grammar.specs.Tokens.{dots, name_sort, tokens}
 use Rattle.mu_text.proofs.Runs.{letter_first, length-segments}
 use Rattle.mu_text.proofs.Facts.{front_some}
 use Rattle.mu_text.proofs.Fronts.{prefix_len-yes}

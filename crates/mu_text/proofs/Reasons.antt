@@ -2,17 +2,17 @@
 use Rattle.std.proofs.Common.{◌≡◌, ℕ, false, List, [], ◌∷◌, ◌++◌, Some, inl, inr, refl, ap, sym, ◌∙◌, subst}
 use Rattle.std.specs.Prelude.{codes}
 use Rattle.mu_tree.specs.declared.why.Ref.{Ref}
-use Rattle.mu_text.specs.declared.symbol.Word.TheVariants.{Meta}
-use Rattle.mu_text.specs.declared.symbol.Mark.TheVariants.{And, Or as Either, Not, Comma, Semicolon, Becomes}
-use Rattle.mu_text.specs.Lexemes.{Lexeme, word, mark}
-use Rattle.mu_text.specs.Marks.{is_mark}
-use Rattle.mu_text.specs.Parts.{Out, Nothing, given_back, Then, chain, Made, mapped, Or}
-use Rattle.mu_text.specs.SimpleParts.{name_of, meta_of, AnyName, MetaName, GivenWord, GivenMark, is_word, read_meta, read_mark, read_word, read_name}
-use Rattle.mu_text.specs.Groups.{Parameters, read_parameters}
-use Rattle.mu_text.specs.Writings.{Writing}
-use Rattle.mu_text.specs.Trees.{OneTree, read_tree}
-use Rattle.mu_text.specs.References.{SomeReferences, read_references}
-use Rattle.mu_text.specs.Reasons.{AbstractionWriting, IsAbstraction, SomeAbstractions, abstracting, read_abstraction, read_abstractions, Reason, by_rule, Led, led, read_from, read_with, IsReason, read_reason}
+use Rattle.mu_grammar.specs.declared.symbol.Word.TheVariants.{Meta}
+use Rattle.mu_grammar.specs.declared.symbol.Mark.TheVariants.{And, Or as Either, Not, Comma, Semicolon, Becomes}
+use Rattle.mu_grammar.specs.Lexemes.{Lexeme, word, mark}
+use Rattle.mu_grammar.specs.Marks.{is_mark}
+use Rattle.mu_grammar.specs.Parts.{Out, Nothing, given_back, Then, chain, Made, mapped, Or}
+use Rattle.mu_grammar.specs.SimpleParts.{name_of, meta_of, AnyName, MetaName, GivenWord, GivenMark, is_word, read_meta, read_mark, read_word, read_name}
+use Rattle.mu_grammar.specs.Groups.{Parameters, read_parameters}
+use Rattle.mu_grammar.specs.Writings.{Writing}
+use Rattle.mu_grammar.specs.Trees.{OneTree, read_tree}
+use Rattle.mu_grammar.specs.References.{SomeReferences, read_references}
+use Rattle.mu_grammar.specs.Reasons.{AbstractionWriting, IsAbstraction, SomeAbstractions, abstracting, read_abstraction, read_abstractions, Reason, by_rule, Led, led, read_from, read_with, IsReason, read_reason}
 use Rattle.mu_text.proofs.Choice.{Passes, Fails, Exact-either}
 use Rattle.mu_text.proofs.Complete.{Follows, plain_follows}
 use Rattle.mu_text.proofs.Exact.{Exact, Exact-same, Exact-chain, Exact-mapped, Exact-pure, Exact-before}

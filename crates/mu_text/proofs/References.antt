@@ -2,12 +2,12 @@
 use Rattle.std.proofs.Common.{◌≡◌, ℕ, true, false, List, ◌++◌, Some, inl, inr, refl, sym, subst}
 use Rattle.mu_tree.specs.declared.why.Ref.{Ref}
 use Rattle.mu_tree.specs.declared.why.Ref.TheVariants as ref
-use Rattle.mu_text.specs.declared.symbol.Word.TheVariants.{Place}
-use Rattle.mu_text.specs.declared.symbol.Mark.TheVariants.{Comma}
-use Rattle.mu_text.specs.Lexemes.{Lexeme, word, mark}
-use Rattle.mu_text.specs.Parts.{Or, Made, mapped}
-use Rattle.mu_text.specs.SimpleParts.{plain_name_of, place_of, PlainName, PlaceNumber, read_plain_name, read_place}
-use Rattle.mu_text.specs.References.{is_place_token, IsReference, SomeReferences, read_reference, read_references}
+use Rattle.mu_grammar.specs.declared.symbol.Word.TheVariants.{Place}
+use Rattle.mu_grammar.specs.declared.symbol.Mark.TheVariants.{Comma}
+use Rattle.mu_grammar.specs.Lexemes.{Lexeme, word, mark}
+use Rattle.mu_grammar.specs.Parts.{Or, Made, mapped}
+use Rattle.mu_grammar.specs.SimpleParts.{plain_name_of, place_of, PlainName, PlaceNumber, read_plain_name, read_place}
+use Rattle.mu_grammar.specs.References.{is_place_token, IsReference, SomeReferences, read_reference, read_references}
 use Rattle.mu_text.proofs.Choice.{Passes, Fails, Exact-either}
 use Rattle.mu_text.proofs.Exact.{Exact, Exact-same, Exact-mapped}
 use Rattle.mu_text.proofs.Lists.{Exact-separated}

@@ -1,8 +1,8 @@
 -- Rows of parts are read exactly, where no part could take what begins the next.
 use Rattle.std.proofs.Common.{◌≡◌, List, [], ◌∷◌, ◌++◌, refl, ap, sym, ◌∙◌, subst, append-nil}
-use Rattle.mu_text.specs.Lexemes.{Lexeme}
-use Rattle.mu_text.specs.Parts.{Out, found, ◌>>=◌, Read, Nothing, given_back, End, Then, chain}
-use Rattle.mu_text.specs.Rows.{Values, SpellsRow, read_row, StandsRow, Makes}
+use Rattle.mu_grammar.specs.Lexemes.{Lexeme}
+use Rattle.mu_grammar.specs.Parts.{Out, found, ◌>>=◌, Read, Nothing, given_back, End, Then, chain}
+use Rattle.mu_grammar.specs.Rows.{Values, SpellsRow, read_row, StandsRow, Makes}
 use Rattle.mu_text.proofs.Exact.{Exact, Exact-same, Exact-chain, Exact-pure}
 
 module _ {Part : Type 0} (Value : Part → Type 0) (read : (part : Part) → List Lexeme → Out (Value part)) (Spells : (part : Part) → List Lexeme → Value part → Type 0) (Stops : Part → List Lexeme → Type 0) where

@@ -7,7 +7,7 @@ use Rattle.std.proofs.lemmas.Bool.Decides.{nat_tests}
 use Rattle.std.proofs.lemmas.List.Splits.{length-slice_split}
 use Rattle.std.proofs.lemmas.List.Sums.{sum_by-cons}
 use Rattle.mu_tree.specs.Names.{is_letter, is_name_byte, is_segment, segments, are_segments}
-use Rattle.mu_text.specs.Tokens.{starts_letter, run_length, dots}
+use Rattle.mu_grammar.specs.Tokens.{starts_letter, run_length, dots}
 
 letter_is_no_dot : (byte : ℕ) → is_letter byte ≡ true → (byte == 46) ≡ false
 letter_is_no_dot byte e = grind (arith, nat_tests)

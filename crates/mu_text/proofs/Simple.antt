@@ -6,13 +6,13 @@ use Rattle.std.specs.Cmp.Lexicographic.{pointwise}
 use Rattle.std.proofs.lemmas.Slice.Eq.{bytes_eq-Decides}
 use Rattle.mu_tree.specs.declared.claim.Kind.{Kind}
 use Rattle.mu_tree.specs.declared.claim.Kind.TheVariants as kind
-use Rattle.mu_text.specs.declared.symbol.Word.TheVariants.{Plain, Meta, Place}
-use Rattle.mu_text.specs.declared.symbol.Mark.{Mark}
-use Rattle.mu_text.specs.declared.symbol.Mark.TheVariants.{Comma}
-use Rattle.mu_text.specs.Lexemes.{Lexeme, word, mark}
-use Rattle.mu_text.specs.Marks.{is_mark}
-use Rattle.mu_text.specs.Parts.{token, OneToken}
-use Rattle.mu_text.specs.SimpleParts.{plain_name_of, name_of, var_of, meta_of, place_of, where_true, where_either, has_bytes, is_word, word_of, mark_of, kind_of, PlainName, AnyName, VarName, MetaName, PlaceNumber, GivenWord, GivenMark, OneKind, SomeKinds, SomeVars, read_plain_name, read_name, read_var, read_meta, read_place, read_word, read_mark, read_kind, read_kinds, read_vars}
+use Rattle.mu_grammar.specs.declared.symbol.Word.TheVariants.{Plain, Meta, Place}
+use Rattle.mu_grammar.specs.declared.symbol.Mark.{Mark}
+use Rattle.mu_grammar.specs.declared.symbol.Mark.TheVariants.{Comma}
+use Rattle.mu_grammar.specs.Lexemes.{Lexeme, word, mark}
+use Rattle.mu_grammar.specs.Marks.{is_mark}
+use Rattle.mu_grammar.specs.Parts.{token, OneToken}
+use Rattle.mu_grammar.specs.SimpleParts.{plain_name_of, name_of, var_of, meta_of, place_of, where_true, where_either, has_bytes, is_word, word_of, mark_of, kind_of, PlainName, AnyName, VarName, MetaName, PlaceNumber, GivenWord, GivenMark, OneKind, SomeKinds, SomeVars, read_plain_name, read_name, read_var, read_meta, read_place, read_word, read_mark, read_kind, read_kinds, read_vars}
 use Rattle.mu_text.proofs.Marks.{own_mark, only_mark}
 use Rattle.mu_text.proofs.Choice.{Fails}
 use Rattle.mu_text.proofs.Exact.{Exact, Exact-token, Exact-same}

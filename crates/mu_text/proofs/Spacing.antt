@@ -13,13 +13,13 @@ use Rattle.std.proofs.lemmas.List.Splits.{join_with_byte-slice_split}
 use Rattle.std.proofs.lemmas.Simd.{map-map}
 use Rattle.std.proofs.lemmas.Slice.Eq.{bytes_eq-Decides}
 use Rattle.mu_tree.specs.Names.{is_letter, is_digit, is_name_byte, is_segment, segments, are_segments}
-use Rattle.mu_text.specs.declared.token.Token.{Token}
-use Rattle.mu_text.specs.declared.token.TokenSort.{TokenSort}
-use Rattle.mu_text.specs.declared.token.TokenSort.TheVariants.{Name, Meta, Place, Symbol, Wrong}
-use Rattle.mu_text.specs.Reading.{is_blank, starts_visible, starts_positive, symbols, is_spelled, IsFront, IsLongestFront, IsStray, IsFirstToken, AreTokensFrom, text_of}
-use Rattle.mu_text.specs.Tokens.{tokens}
-use Rattle.mu_text.specs.Lexemes.{Lexeme, item, items_of, item_of, sort_in, word_in}
-use Rattle.mu_text.specs.Spacing.{spaced}
+use Rattle.mu_grammar.specs.declared.token.Token.{Token}
+use Rattle.mu_grammar.specs.declared.token.TokenSort.{TokenSort}
+use Rattle.mu_grammar.specs.declared.token.TokenSort.TheVariants.{Name, Meta, Place, Symbol, Wrong}
+use Rattle.mu_grammar.specs.Reading.{is_blank, starts_visible, starts_positive, symbols, is_spelled, IsFront, IsLongestFront, IsStray, IsFirstToken, AreTokensFrom, text_of}
+use Rattle.mu_grammar.specs.Tokens.{tokens}
+use Rattle.mu_grammar.specs.Lexemes.{Lexeme, item, items_of, item_of, sort_in, word_in}
+use Rattle.mu_grammar.specs.Spacing.{spaced}
 use Rattle.mu_text.proofs.Facts.{visible_some}
 use Rattle.mu_text.proofs.Kept.{tokens_are}
 use Rattle.mu_text.proofs.Only.{tokens_only}

@@ -4,24 +4,24 @@ use Rattle.std.specs.Prelude.{nat_le}
 use Rattle.mu_tree.specs.Names.{IsName}
 use Rattle.mu_tree.specs.declared.trees.Tree.{Tree}
 use Rattle.mu_tree.specs.declared.trees.Tree.TheVariants as tree
-use Rattle.mu_text.specs.declared.symbol.Word.{Word}
-use Rattle.mu_text.specs.declared.symbol.Word.TheVariants.{Plain, Dotted, True, Meta, Place}
-use Rattle.mu_text.specs.declared.symbol.Mark.{Mark}
-use Rattle.mu_text.specs.declared.symbol.Mark.TheVariants.{And, Or, Not, Iff, Imp, Eq, Colon, Open, Close, OpenBracket, CloseBracket, OpenBrace, CloseBrace, Comma, Semicolon, Dot, Becomes, Bar, Turnstile, Arrow, Wrong}
-use Rattle.mu_text.specs.declared.way.Beginning.TheVariants as begins
-use Rattle.mu_text.specs.declared.way.Opening.TheVariants as opens
-use Rattle.mu_text.specs.declared.way.Ending.TheVariants as ends
-use Rattle.mu_text.specs.declared.ops.Op.{Op}
+use Rattle.mu_grammar.specs.declared.symbol.Word.{Word}
+use Rattle.mu_grammar.specs.declared.symbol.Word.TheVariants.{Plain, Dotted, True, Meta, Place}
+use Rattle.mu_grammar.specs.declared.symbol.Mark.{Mark}
+use Rattle.mu_grammar.specs.declared.symbol.Mark.TheVariants.{And, Or, Not, Iff, Imp, Eq, Colon, Open, Close, OpenBracket, CloseBracket, OpenBrace, CloseBrace, Comma, Semicolon, Dot, Becomes, Bar, Turnstile, Arrow, Wrong}
+use Rattle.mu_grammar.specs.declared.way.Beginning.TheVariants as begins
+use Rattle.mu_grammar.specs.declared.way.Opening.TheVariants as opens
+use Rattle.mu_grammar.specs.declared.way.Ending.TheVariants as ends
+use Rattle.mu_grammar.specs.declared.ops.Op.{Op}
 use Rattle.mu_text.specs.declared.operand.Operand.{Operand}
 use Rattle.mu_text.specs.declared.operand.Several.{Several}
-use Rattle.mu_text.specs.Lexemes.{Lexeme, word, mark, bytes_of, sort_of, first_sort, first_bytes, after_first}
-use Rattle.mu_text.specs.Ops.{binary, constant_of, prefix_level}
-use Rattle.mu_text.specs.Writings.{Writing, Writings, leaf, apply, bind, paren, neg, bin, one, more, level, made, nodes, nodes_of, deep, deep_of, Short, ShortAll, tree_of, trees_of}
-use Rattle.mu_text.specs.Parts.{stopped}
-use Rattle.mu_text.specs.Machine.{Stack, right, negated, inside, given, domain, body, fill, want, named, binding, typing, have, Next, stop, step, after, after_name, close, close_given, run, ending, begin, beginning_of, opening_of, ending_of}
+use Rattle.mu_grammar.specs.Lexemes.{Lexeme, word, mark, bytes_of, sort_of, first_sort, first_bytes, after_first}
+use Rattle.mu_grammar.specs.Ops.{binary, constant_of, prefix_level}
+use Rattle.mu_grammar.specs.Writings.{Writing, Writings, leaf, apply, bind, paren, neg, bin, one, more, level, made, nodes, nodes_of, deep, deep_of, Short, ShortAll, tree_of, trees_of}
+use Rattle.mu_grammar.specs.Parts.{stopped}
+use Rattle.mu_grammar.specs.Machine.{Stack, right, negated, inside, given, domain, body, fill, want, named, binding, typing, have, Next, stop, step, after, after_name, close, close_given, run, ending, begin, beginning_of, opening_of, ending_of}
 use Rattle.std.specs.Prelude.{Result, Ok, Err}
-use Rattle.mu_text.specs.declared.fault.PartFault.{PartFault}
-use Rattle.mu_text.specs.declared.fault.PartFault.TheVariants.{Mismatch, NoMemory}
+use Rattle.mu_grammar.specs.declared.fault.PartFault.{PartFault}
+use Rattle.mu_grammar.specs.declared.fault.PartFault.TheVariants.{Mismatch, NoMemory}
 use Rattle.mu_text.specs.Reads.{capped, Stands, StandsAll, Built, Enclosing, Added, Goes, Gives, Ends, OperatorFirst, Reads, Stops, Expects, ExpectsVar}
 use Rattle.mu_text.proofs.Complete.{run_go, run_same, opened, leb_yes, taken, arguments_run, binder_run, ends_run, goes_on_run}
 use Rattle.mu_text.proofs.Viable.{le_from, at_paren, at_not, at_comma}

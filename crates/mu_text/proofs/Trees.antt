@@ -1,20 +1,20 @@
 -- A tree is read exactly.
 use Rattle.std.proofs.Common.{◌≡◌, ◌≤◌, List, [], ◌∷◌, ◌++◌, Some, refl, ap, sym, ◌∙◌, arith}
 use Rattle.std.specs.Prelude.{Result, Ok, Err}
-use Rattle.mu_text.specs.declared.symbol.Word.TheVariants.{Plain}
-use Rattle.mu_text.specs.declared.symbol.Mark.TheVariants.{Semicolon}
-use Rattle.mu_text.specs.declared.ops.Op.{Op}
-use Rattle.mu_text.specs.declared.fault.PartFault.{PartFault}
-use Rattle.mu_text.specs.declared.fault.PartFault.TheVariants.{Mismatch, NoMemory}
+use Rattle.mu_grammar.specs.declared.symbol.Word.TheVariants.{Plain}
+use Rattle.mu_grammar.specs.declared.symbol.Mark.TheVariants.{Semicolon}
+use Rattle.mu_grammar.specs.declared.ops.Op.{Op}
+use Rattle.mu_grammar.specs.declared.fault.PartFault.{PartFault}
+use Rattle.mu_grammar.specs.declared.fault.PartFault.TheVariants.{Mismatch, NoMemory}
 use Rattle.mu_text.specs.declared.operand.Operand.{Operand}
-use Rattle.mu_text.specs.Lexemes.{Lexeme, word}
-use Rattle.mu_text.specs.Marks.{is_mark}
-use Rattle.mu_text.specs.Ops.{binary}
-use Rattle.mu_text.specs.Parts.{Out, found, stopped, Gives}
-use Rattle.mu_text.specs.Writings.{Writing, level}
-use Rattle.mu_text.specs.Machine.{top, want, have, done, run}
+use Rattle.mu_grammar.specs.Lexemes.{Lexeme, word}
+use Rattle.mu_grammar.specs.Marks.{is_mark}
+use Rattle.mu_grammar.specs.Ops.{binary}
+use Rattle.mu_grammar.specs.Parts.{Out, found, stopped, Gives}
+use Rattle.mu_grammar.specs.Writings.{Writing, level}
+use Rattle.mu_grammar.specs.Machine.{top, want, have, done, run}
 use Rattle.mu_text.specs.Reads.{ReadsTree, Goes, Ends, Stands}
-use Rattle.mu_text.specs.Trees.{OneTree, read_tree}
+use Rattle.mu_grammar.specs.Trees.{OneTree, read_tree}
 use Rattle.mu_text.proofs.Complete.{MayFollow, Follows, Shape, shape, follows-more, reads}
 use Rattle.mu_text.proofs.Viable.{Answers, some, start, start_good, run_good, run_next}
 use Rattle.mu_text.proofs.Steps.{not_offered}

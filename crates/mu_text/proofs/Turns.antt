@@ -1,10 +1,10 @@
 -- The turns of a loop that reads a list with a mark between its items.
 use Rattle.std.proofs.Common.{◌≡◌, ℕ, zero, suc, ◌<◌, ◌≤◌, List, [], ◌∷◌, ◌++◌, length, Bool, true, false, refl, ap, sym, ◌∙◌, subst, append_assoc, append-nil, arith}
 use Rattle.std.specs.Prelude.{if◌then◌else◌}
-use Rattle.mu_text.specs.declared.symbol.Mark.{Mark}
-use Rattle.mu_text.specs.Lexemes.{Lexeme, after_first}
-use Rattle.mu_text.specs.Marks.{is_mark}
-use Rattle.mu_text.specs.Parts.{Out, found, stopped, ◌>>=◌, Read, Same, StandsEach, starts, with_first, more_of, read_more, separated}
+use Rattle.mu_grammar.specs.declared.symbol.Mark.{Mark}
+use Rattle.mu_grammar.specs.Lexemes.{Lexeme, after_first}
+use Rattle.mu_grammar.specs.Marks.{is_mark}
+use Rattle.mu_grammar.specs.Parts.{Out, found, stopped, ◌>>=◌, Read, Same, StandsEach, starts, with_first, more_of, read_more, separated}
 use Rattle.mu_text.proofs.Exact.{Exact, shorter}
 
 -- what was read before, in front

@@ -2,21 +2,21 @@
 use Rattle.std.proofs.Common.{◌≡◌, ℕ, ◌-◌, ◌<◌, ◌≤◌, List, [], ◌∷◌, ◌++◌, Option, Some, None, Bool, true, false, ◌&&◌, refl, ap, sym, ◌∙◌, subst, append_assoc, append-nil, arith}
 use Rattle.std.specs.Prelude.{nat_le, if◌then◌else◌}
 use Rattle.std.proofs.lemmas.Bool.Decides.{nat_tests}
-use Rattle.mu_text.specs.declared.symbol.Word.{Word}
-use Rattle.mu_text.specs.declared.symbol.Word.TheVariants.{Plain, Dotted, True, Meta, Place}
-use Rattle.mu_text.specs.declared.symbol.Mark.TheVariants.{Not, Colon, Open, Close, OpenBracket, CloseBracket, OpenBrace, CloseBrace, Comma, Dot}
-use Rattle.mu_text.specs.declared.way.Beginning.{Beginning}
-use Rattle.mu_text.specs.declared.way.Beginning.TheVariants as begins
-use Rattle.mu_text.specs.declared.way.Opening.{Opening}
-use Rattle.mu_text.specs.declared.way.Opening.TheVariants as opens
-use Rattle.mu_text.specs.declared.way.Ending.{Ending}
-use Rattle.mu_text.specs.declared.way.Ending.TheVariants as ends
-use Rattle.mu_text.specs.declared.ops.Op.{Op}
-use Rattle.mu_text.specs.Lexemes.{Lexeme, word, mark, bytes_of}
-use Rattle.mu_text.specs.Ops.{binary, prefix_level, atom_level}
-use Rattle.mu_text.specs.Writings.{Writing, Writings, leaf, apply, bind, paren, neg, bin, one, more, level, tokens, tokens_of, Fits, FitsAll, IsTree, is_head, is_binder, opener, closer}
-use Rattle.mu_text.specs.Parts.{Begins, Out, found, stopped}
-use Rattle.mu_text.specs.Machine.{Stack, top, right, negated, inside, given, domain, body, fill, Mode, want, named, binding, typing, have, Next, go, done, stop, open_levels, after, close_given, close, after_tree, begin, after_name, beginning, opening, ending, step, finish, ended, at_end, run}
+use Rattle.mu_grammar.specs.declared.symbol.Word.{Word}
+use Rattle.mu_grammar.specs.declared.symbol.Word.TheVariants.{Plain, Dotted, True, Meta, Place}
+use Rattle.mu_grammar.specs.declared.symbol.Mark.TheVariants.{Not, Colon, Open, Close, OpenBracket, CloseBracket, OpenBrace, CloseBrace, Comma, Dot}
+use Rattle.mu_grammar.specs.declared.way.Beginning.{Beginning}
+use Rattle.mu_grammar.specs.declared.way.Beginning.TheVariants as begins
+use Rattle.mu_grammar.specs.declared.way.Opening.{Opening}
+use Rattle.mu_grammar.specs.declared.way.Opening.TheVariants as opens
+use Rattle.mu_grammar.specs.declared.way.Ending.{Ending}
+use Rattle.mu_grammar.specs.declared.way.Ending.TheVariants as ends
+use Rattle.mu_grammar.specs.declared.ops.Op.{Op}
+use Rattle.mu_grammar.specs.Lexemes.{Lexeme, word, mark, bytes_of}
+use Rattle.mu_grammar.specs.Ops.{binary, prefix_level, atom_level}
+use Rattle.mu_grammar.specs.Writings.{Writing, Writings, leaf, apply, bind, paren, neg, bin, one, more, level, tokens, tokens_of, Fits, FitsAll, IsTree, is_head, is_binder, opener, closer}
+use Rattle.mu_grammar.specs.Parts.{Begins, Out, found, stopped}
+use Rattle.mu_grammar.specs.Machine.{Stack, top, right, negated, inside, given, domain, body, fill, Mode, want, named, binding, typing, have, Next, go, done, stop, open_levels, after, close_given, close, after_tree, begin, after_name, beginning, opening, ending, step, finish, ended, at_end, run}
 use Rattle.mu_text.proofs.Complete.{Shape, shape, run_go}
 
 -- the tokens of the arguments before, each with its comma

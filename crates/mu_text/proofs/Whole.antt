@@ -1,7 +1,7 @@
 -- What an exact reader says of a whole line.
 use Rattle.std.proofs.Common.{◌≡◌, ℕ, ◌+◌, ◌-◌, ◌<◌, List, [], ◌∷◌, ◌++◌, length, take, refl, ap, sym, ◌∙◌, subst, append_assoc, append-nil, length-append, arith}
-use Rattle.mu_text.specs.Lexemes.{Lexeme}
-use Rattle.mu_text.specs.Parts.{Begins, Refused, Out, found, stopped, Outcome, Read, End}
+use Rattle.mu_grammar.specs.Lexemes.{Lexeme}
+use Rattle.mu_grammar.specs.Parts.{Begins, Refused, Out, found, stopped, Outcome, Read, End}
 use Rattle.mu_text.proofs.Exact.{Exact, Answered}
 
 take_front : (xs ys : List Lexeme) → take (length xs) (xs ++ ys) ≡ xs

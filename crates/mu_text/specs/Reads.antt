@@ -2,19 +2,19 @@
 use Rattle.std.specs.Prelude.{◌≡◌, ℕ, ◌+◌, ◌-◌, ◌≤◌, min, max, List, [], ◌∷◌, ◌++◌, Option, Some, None, Result, Ok, Err}
 use Rattle.mu_tree.specs.Names.{IsName}
 use Rattle.mu_tree.specs.declared.trees.Tree.{Tree}
-use Rattle.mu_text.specs.declared.symbol.Word.{Word}
-use Rattle.mu_text.specs.declared.symbol.Word.TheVariants.{Plain}
-use Rattle.mu_text.specs.declared.symbol.Mark.{Mark}
-use Rattle.mu_text.specs.declared.ops.Op.{Op}
-use Rattle.mu_text.specs.declared.fault.PartFault.{PartFault}
-use Rattle.mu_text.specs.declared.fault.PartFault.TheVariants.{Mismatch, NoMemory}
+use Rattle.mu_grammar.specs.declared.symbol.Word.{Word}
+use Rattle.mu_grammar.specs.declared.symbol.Word.TheVariants.{Plain}
+use Rattle.mu_grammar.specs.declared.symbol.Mark.{Mark}
+use Rattle.mu_grammar.specs.declared.ops.Op.{Op}
+use Rattle.mu_grammar.specs.declared.fault.PartFault.{PartFault}
+use Rattle.mu_grammar.specs.declared.fault.PartFault.TheVariants.{Mismatch, NoMemory}
 use Rattle.mu_text.specs.declared.operand.Operand.{Operand}
 use Rattle.mu_text.specs.declared.operand.Several.{Several}
-use Rattle.mu_text.specs.Lexemes.{Lexeme, word, mark, first_sort}
-use Rattle.mu_text.specs.Parts.{stopped}
-use Rattle.mu_text.specs.Ops.{operator_of}
-use Rattle.mu_text.specs.Writings.{Writing, Writings, apply, level, tree_of, trees_of, nodes, nodes_of, deep, deep_of, Kept, KeptAll}
-use Rattle.mu_text.specs.Machine.{Stack, Mode, want, named, binding, have, given, run}
+use Rattle.mu_grammar.specs.Lexemes.{Lexeme, word, mark, first_sort}
+use Rattle.mu_grammar.specs.Parts.{stopped}
+use Rattle.mu_grammar.specs.Ops.{operator_of}
+use Rattle.mu_grammar.specs.Writings.{Writing, Writings, apply, level, tree_of, trees_of, nodes, nodes_of, deep, deep_of, Kept, KeptAll}
+use Rattle.mu_grammar.specs.Machine.{Stack, Mode, want, named, binding, have, given, run}
 
 -- counts are kept up to here, past every limit
 abbrev pub capped : ℕ → ℕ

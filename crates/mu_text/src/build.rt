@@ -1,21 +1,13 @@
 ghost use Rattle.std.specs.Prelude.{◌≡◌, ◌≤◌, ◌+◌, [], ◌∷◌, ◌++◌, IfOk, IsTrue, ◌↔◌, max};
-ghost use Rattle.mu_text.specs.Writings.{made as made_of};
+ghost use Rattle.mu_grammar.specs.Writings.{made as made_of};
 ghost use Rattle.mu_tree.specs.declared.trees.Tree.TheVariants as tree;
 ghost use Rattle.mu_text.specs.Reads.{capped, Built, Enclosing, Added};
 
-use crate::fault::PartFault;
 use crate::operand::{Operand, Several};
-use crate::ops::{ATOM_LEVEL, PREFIX_LEVEL};
-use crate::symbol::Word;
+use mu_grammar::{ATOM_LEVEL, MOST_DEPTH, MOST_NODES, PREFIX_LEVEL, PartFault, Word};
 use mu_tree::{Name, Tree, Trees};
 use sqlite_items::Boxed;
 use std::alloc::{AllocError, Global};
-
-/// The most nodes of a tree that is built.
-pub const MOST_NODES: u64 = 4_096;
-
-/// The most nodes on a way down in a tree that is built.
-pub const MOST_DEPTH: u64 = 200;
 
 /// Where counts stop.
 const MOST_COUNTED: u64 = 5_000;

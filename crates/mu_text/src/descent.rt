@@ -1,19 +1,18 @@
 ghost use Rattle.std.specs.Prelude.{◌≡◌, ℕ, ◌<◌, ◌≤◌, List, length, OnOk};
 ghost use Rattle.mu_tree.specs.Names.{IsName};
-ghost use Rattle.mu_text.specs.Lexemes.{first_sort};
-ghost use Rattle.mu_text.specs.Machine.{beginning_of};
+ghost use Rattle.mu_grammar.specs.Lexemes.{first_sort};
+ghost use Rattle.mu_grammar.specs.Machine.{beginning_of};
 ghost use Rattle.mu_text.specs.Reads.{Expects, ExpectsVar, GrowsTo, Offers, OperatorFirst, ReadsArguments, ReadsBinder, ReadsNamed, ReadsOperand, ReadsTree, Stands};
-ghost use Rattle.mu_text.specs.Writings.{Writing};
-ghost use Rattle.mu_text.specs.declared.way.Beginning.TheVariants as begins;
+ghost use Rattle.mu_grammar.specs.Writings.{Writing};
+ghost use Rattle.mu_grammar.specs.declared.way.Beginning.TheVariants as begins;
 
 use crate::build::{added, applied, atom, bound, joined, leaf, negated, none};
-use crate::fault::PartFault;
 use crate::operand::{Operand, Several};
-use crate::ops::{Op, PREFIX_LEVEL, constant};
 use crate::parts::kept_name;
 use crate::reader::Reader;
-use crate::symbol::{Mark, Sort, Word};
-use crate::way::{Beginning, Ending, Opening};
+use mu_grammar::{
+    Beginning, Ending, Mark, Op, Opening, PREFIX_LEVEL, PartFault, Sort, Word, constant,
+};
 use mu_tree::Name;
 use std::alloc::Global;
 

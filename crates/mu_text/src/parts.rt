@@ -4,11 +4,11 @@
 ghost use Rattle.std.specs.Prelude.{◌≡◌, ◌↔◌, IsTrue, true, Some, None, IfOk, IfErr, MatchOption};
 ghost use Rattle.mu_tree.specs.Names.{is_digit as digit_test};
 ghost use Rattle.std.specs.List.{list_all};
-ghost use Rattle.mu_text.specs.declared.fault.PartFault.TheVariants as fault;
-ghost use Rattle.mu_text.specs.Groups.{read_argument_kinds, read_parameters};
-ghost use Rattle.mu_text.specs.Marks.{is_mark};
-ghost use Rattle.mu_text.specs.Parts.{Gives, Same, StandsEach, at_end, first_as, starts};
-ghost use Rattle.mu_text.specs.SimpleParts.{StandsName, is_number as number_test, is_word as word_test, name_of, kind_of, number_from, number_of, place_of, plain_name_of, read_kind, read_kinds, read_mark, read_meta, read_name, read_place, read_plain_name, read_var, read_vars, read_word};
+ghost use Rattle.mu_grammar.specs.declared.fault.PartFault.TheVariants as fault;
+ghost use Rattle.mu_grammar.specs.Groups.{read_argument_kinds, read_parameters};
+ghost use Rattle.mu_grammar.specs.Marks.{is_mark};
+ghost use Rattle.mu_grammar.specs.Parts.{Gives, Same, StandsEach, at_end, first_as, starts};
+ghost use Rattle.mu_grammar.specs.SimpleParts.{StandsName, is_number as number_test, is_word as word_test, name_of, kind_of, number_from, number_of, place_of, plain_name_of, read_kind, read_kinds, read_mark, read_meta, read_name, read_place, read_plain_name, read_var, read_vars, read_word};
 
 mod claims;
 mod declarations;
@@ -16,12 +16,11 @@ mod reasons;
 mod refs;
 mod trees;
 
-use crate::fault::PartFault;
 use crate::reader::Reader;
-use crate::symbol::{Mark, Sort, Word};
 use crate::tokens::{MOST_DIGITS, split, starts_positive};
 pub use claims::claim;
-pub use declarations::{DeclaredConstant, declaration};
+pub use declarations::declaration;
+use mu_grammar::{Mark, PartFault, Sort, Word};
 use mu_tree::{Kind, Kinds, Name, NameFault, Names};
 pub use reasons::{abstraction, abstractions, reason};
 pub use refs::{reference, references};
@@ -95,7 +94,7 @@ pub fn name_bytes<'a>(reader: &'a Reader) -> Option<&'a [u8]>
 /// # Errors
 ///
 /// `Mismatch` where the first token is no such name; then no token is passed over. `NoMemory`.
-#[tactic(auto, unfolding(crate::specs::SimpleParts::read_plain_name))]
+#[tactic(auto, unfolding(mu_grammar::specs::SimpleParts::read_plain_name))]
 pub fn plain_name(alloc: Global, reader: &mut Reader) -> Result<Name, PartFault>
     ensures { Gives StandsName (read_plain_name reader.old) result reader.new }
 {
@@ -114,7 +113,7 @@ pub fn plain_name(alloc: Global, reader: &mut Reader) -> Result<Name, PartFault>
 /// # Errors
 ///
 /// `Mismatch` where the first token is no name; then no token is passed over. `NoMemory`.
-#[tactic(auto, unfolding(crate::specs::SimpleParts::read_name))]
+#[tactic(auto, unfolding(mu_grammar::specs::SimpleParts::read_name))]
 pub fn name(alloc: Global, reader: &mut Reader) -> Result<Name, PartFault>
     ensures { Gives StandsName (read_name reader.old) result reader.new }
 {
@@ -133,7 +132,7 @@ pub fn name(alloc: Global, reader: &mut Reader) -> Result<Name, PartFault>
 /// # Errors
 ///
 /// `Mismatch` where the first token is no variable; then no token is passed over. `NoMemory`.
-#[tactic(auto, unfolding(crate::specs::SimpleParts::read_var))]
+#[tactic(auto, unfolding(mu_grammar::specs::SimpleParts::read_var))]
 pub fn var(alloc: Global, reader: &mut Reader) -> Result<Name, PartFault>
     ensures { Gives StandsName (read_var reader.old) result reader.new }
 {
@@ -152,7 +151,7 @@ pub fn var(alloc: Global, reader: &mut Reader) -> Result<Name, PartFault>
 /// # Errors
 ///
 /// `Mismatch` where the first token is no metavariable; then no token is passed over. `NoMemory`.
-#[tactic(auto, unfolding(crate::specs::SimpleParts::read_meta))]
+#[tactic(auto, unfolding(mu_grammar::specs::SimpleParts::read_meta))]
 pub fn meta(alloc: Global, reader: &mut Reader) -> Result<Name, PartFault>
     ensures { Gives StandsName (read_meta reader.old) result reader.new }
 {
@@ -171,7 +170,7 @@ pub fn meta(alloc: Global, reader: &mut Reader) -> Result<Name, PartFault>
 /// # Errors
 ///
 /// `Mismatch` where the first token is no place; then no token is passed over.
-#[tactic(auto, unfolding(crate::specs::SimpleParts::read_place))]
+#[tactic(auto, unfolding(mu_grammar::specs::SimpleParts::read_place))]
 pub fn place(reader: &mut Reader) -> Result<u32, PartFault>
     ensures { Gives Same (read_place reader.old) result reader.new }
 {
@@ -233,7 +232,7 @@ fn digits_value(text: &[u8]) -> u32
 /// # Errors
 ///
 /// `Mismatch` where the first token is another; then no token is passed over.
-#[tactic(auto, unfolding(crate::specs::SimpleParts::read_word))]
+#[tactic(auto, unfolding(mu_grammar::specs::SimpleParts::read_word))]
 pub fn word(reader: &mut Reader, text: &[u8]) -> Result<(), PartFault>
     ensures { Gives Same (read_word text.now reader.old) result reader.new }
 {
@@ -249,7 +248,7 @@ pub fn word(reader: &mut Reader, text: &[u8]) -> Result<(), PartFault>
 /// # Errors
 ///
 /// `Mismatch` where the first token is another; then no token is passed over.
-#[tactic(auto, unfolding(crate::specs::SimpleParts::read_mark))]
+#[tactic(auto, unfolding(mu_grammar::specs::SimpleParts::read_mark))]
 pub fn mark(reader: &mut Reader, mark: Mark) -> Result<(), PartFault>
     ensures { Gives Same (read_mark mark reader.old) result reader.new }
 {
@@ -277,7 +276,7 @@ fn kind_seen(reader: &Reader) -> Option<Kind>
 /// # Errors
 ///
 /// `Mismatch` where the first token is no kind; then no token is passed over.
-#[tactic(auto, unfolding(crate::specs::SimpleParts::read_kind))]
+#[tactic(auto, unfolding(mu_grammar::specs::SimpleParts::read_kind))]
 pub fn kind(reader: &mut Reader) -> Result<Kind, PartFault>
     ensures { Gives Same (read_kind reader.old) result reader.new }
 {
@@ -309,7 +308,7 @@ pub fn end(reader: &mut Reader) -> Result<(), PartFault>
 /// # Errors
 ///
 /// `Mismatch` at the first token with which no such list goes on. `NoMemory`.
-#[tactic(auto, unfolding(crate::specs::SimpleParts::read_kinds))]
+#[tactic(auto, unfolding(mu_grammar::specs::SimpleParts::read_kinds))]
 pub fn kinds(alloc: Global, reader: &mut Reader) -> Result<Kinds, PartFault>
     ensures { Gives Same (read_kinds reader.old) result reader.new }
 {
@@ -329,7 +328,7 @@ pub fn kinds(alloc: Global, reader: &mut Reader) -> Result<Kinds, PartFault>
 /// # Errors
 ///
 /// `Mismatch` at the first token with which no such list goes on. `NoMemory`.
-#[tactic(auto, unfolding(crate::specs::SimpleParts::read_vars))]
+#[tactic(auto, unfolding(mu_grammar::specs::SimpleParts::read_vars))]
 pub fn vars(alloc: Global, reader: &mut Reader) -> Result<Names, PartFault>
     ensures { Gives (StandsEach StandsName) (read_vars reader.old) result reader.new }
 {
@@ -349,7 +348,7 @@ pub fn vars(alloc: Global, reader: &mut Reader) -> Result<Names, PartFault>
 /// # Errors
 ///
 /// `Mismatch` at the first token with which no such part goes on. `NoMemory`.
-#[tactic(auto, unfolding(crate::specs::Groups::read_parameters))]
+#[tactic(auto, unfolding(mu_grammar::specs::Groups::read_parameters))]
 pub fn parameters(alloc: Global, reader: &mut Reader) -> Result<Names, PartFault>
     ensures { Gives (StandsEach StandsName) (read_parameters reader.old) result reader.new }
 {
@@ -367,7 +366,7 @@ pub fn parameters(alloc: Global, reader: &mut Reader) -> Result<Names, PartFault
 /// # Errors
 ///
 /// `Mismatch` at the first token with which no such part goes on. `NoMemory`.
-#[tactic(auto, unfolding(crate::specs::Groups::read_argument_kinds))]
+#[tactic(auto, unfolding(mu_grammar::specs::Groups::read_argument_kinds))]
 pub fn argument_kinds(alloc: Global, reader: &mut Reader) -> Result<Kinds, PartFault>
     ensures { Gives Same (read_argument_kinds reader.old) result reader.new }
 {

@@ -1,8 +1,7 @@
 ghost use Rattle.std.specs.Prelude.{◌≡◌, length, drop, slice_index};
-ghost use Rattle.mu_text.specs.Lexemes.{item, items, sort_of, bytes_of, first_sort, first_bytes, after_first, name_sort, symbol_mark, sort_in, word_in};
+ghost use Rattle.mu_grammar.specs.Lexemes.{item, items, sort_of, bytes_of, first_sort, first_bytes, after_first, name_sort, symbol_mark, sort_in, word_in};
 
-use crate::symbol::{Mark, Sort, Word};
-use crate::token::{Token, TokenSort, text};
+use mu_grammar::{Mark, Sort, Token, TokenSort, Word, text};
 use std::marker::Model;
 
 /// The tokens of a line that are not read yet. Contracts see them as the grammar takes them.
@@ -14,7 +13,7 @@ pub struct Reader<'a> {
 
 impl<'a> Model for Reader<'a> {
     ghost use Rattle.std.specs.Prelude.{List};
-    ghost use Rattle.mu_text.specs.Lexemes.{Lexeme, items};
+    ghost use Rattle.mu_grammar.specs.Lexemes.{Lexeme, items};
 
     ghost Value = { List Lexeme };
 
@@ -66,14 +65,14 @@ impl<'a> Reader<'a> {
     }
 }
 
-#[tactic(auto, unfolding(crate::specs::Lexemes::item))]
+#[tactic(auto, unfolding(mu_grammar::specs::Lexemes::item))]
 fn sort(line: &[u8], token: Token) -> Sort
     ensures { result ≡ sort_of (item line.now token) }
 {
     sort_in(text(line, token), token.sort)
 }
 
-#[tactic(auto, unfolding(crate::specs::Lexemes::item))]
+#[tactic(auto, unfolding(mu_grammar::specs::Lexemes::item))]
 fn word_bytes(line: &[u8], token: Token) -> &[u8]
     ensures { result.now ≡ bytes_of (item line.now token) }
 {

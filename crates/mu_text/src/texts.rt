@@ -1,45 +1,20 @@
 ghost use Rattle.std.specs.Prelude.{◌≡◌, ◌≤◌, ◌<◌, ◌-◌, ◌+◌, ◌^◌, length};
 ghost use Rattle.std.specs.List.{list_all};
-ghost use Rattle.mu_text.specs.Reading.{text_of};
-ghost use Rattle.mu_text.specs.Tokens.{tokens as tokens_of};
-ghost use Rattle.mu_text.specs.Excesses.{one_tree};
-ghost use Rattle.mu_text.specs.Writings.{tree_of};
-ghost use Rattle.mu_text.specs.Trees.{OneTree};
-ghost use Rattle.mu_text.specs.Claims.{IsClaim, claim_of, trees_in_claim};
-ghost use Rattle.mu_text.specs.Reasons.{IsReason, trees_in_reason, why_of};
-ghost use Rattle.mu_text.specs.Texts.{AreWithin, ReadsText, answer as answer_of, column as column_of, column_behind, is_short_token, segments_of, within_limits};
+ghost use Rattle.mu_grammar.specs.Reading.{text_of};
+ghost use Rattle.mu_grammar.specs.Tokens.{tokens as tokens_of};
+ghost use Rattle.mu_grammar.specs.Excesses.{one_tree};
+ghost use Rattle.mu_grammar.specs.Writings.{tree_of};
+ghost use Rattle.mu_grammar.specs.Trees.{OneTree};
+ghost use Rattle.mu_grammar.specs.Claims.{IsClaim, claim_of, trees_in_claim};
+ghost use Rattle.mu_grammar.specs.Reasons.{IsReason, trees_in_reason, why_of};
+ghost use Rattle.mu_grammar.specs.Texts.{AreWithin, ReadsText, answer as answer_of, column as column_of, column_behind, is_short_token, segments_of, within_limits};
 
-use crate::excess::Excess;
-use crate::fault::PartFault;
 use crate::parts;
 use crate::reader::Reader;
-use crate::token::{Token, TokenSort, text};
 use crate::tokens::Tokens;
+use mu_grammar::{Excess, PartFault, TextFault, Token, TokenSort, text};
 use mu_tree::{Claim, LimitWord, NoMemory, Tree, Why, is_short};
 use std::alloc::Global;
-
-/// Why a text is not read.
-#[derive(Clone, Copy, Debug, PartialEq, Eq)]
-pub enum TextFault {
-    /// The column, from 1, of the first token with which no spelling goes on; where the tokens end before some spelling does,
-    /// the one behind the last token.
-    Syntax(u32),
-    /// The first limit that the text passes.
-    Limit(LimitWord),
-    /// Memory ran out.
-    NoMemory,
-}
-
-impl From<NoMemory> for TextFault {
-    ghost use Rattle.std.specs.Prelude.{◌≡◌};
-    ghost use Rattle.mu_text.specs.declared.texts.TextFault.TheVariants.{NoMemory};
-
-    ghost from_gives = { λ _ fault. fault ≡ NoMemory };
-
-    fn from(_error: NoMemory) -> TextFault {
-        TextFault::NoMemory
-    }
-}
 
 /// Whether no segment of the tokens has more bytes than a name may have.
 pub fn are_short(line: &[u8], tokens: &[Token]) -> bool

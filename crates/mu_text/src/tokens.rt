@@ -1,13 +1,13 @@
 ghost use Rattle.std.specs.Prelude.{◌≡◌, ◌∷◌, [], MatchOption, IfOk};
-ghost use Rattle.mu_text.specs.Reading.{AreOnlyTokens, AreTokens};
-ghost use Rattle.mu_text.specs.Tokens.{tokens};
+ghost use Rattle.mu_grammar.specs.Reading.{AreOnlyTokens, AreTokens};
+ghost use Rattle.mu_grammar.specs.Tokens.{tokens};
 
 mod lexer;
 
-use crate::token::Token;
 pub use lexer::is_blank;
 pub(crate) use lexer::{MOST_DIGITS, split, starts_positive};
 use lexer::{after, first_token};
+use mu_grammar::Token;
 use mu_tree::NoMemory;
 use std::alloc::{AllocError, Global};
 use std::marker::Model;
@@ -20,7 +20,7 @@ pub struct Tokens {
 
 impl Model for Tokens {
     ghost use Rattle.std.specs.Prelude.{List};
-    ghost use Rattle.mu_text.specs.declared.token.Token.{Token};
+    ghost use Rattle.mu_grammar.specs.declared.token.Token.{Token};
 
     ghost Value = { List Token };
 

@@ -5,7 +5,7 @@ use Rattle.std.specs.FinMap as finite
 use Rattle.mu_tree.specs.declared.refusal.Refusal.{Refusal}
 use Rattle.mu_tree.specs.declared.refusal.Refusal.TheVariants.{Limit}
 use Rattle.mu_tree.specs.declared.refusal.LimitWord.{LimitWord}
-use Rattle.mu_text.specs.Lexemes.{Lexeme, items_of}
+use Rattle.mu_grammar.specs.Lexemes.{Lexeme, items_of}
 use Rattle.mu_decl.specs.declared.declaration.Statement.{Statement}
 use Rattle.mu_graph.specs.Circles.{IsAcyclic}
 use Rattle.mu_flat.specs.ProofTables.{leads}

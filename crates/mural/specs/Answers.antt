@@ -5,10 +5,10 @@ use Rattle.std.specs.FinMap as finite
 use Rattle.mu_tree.specs.declared.refusal.Refusal.{Refusal}
 use Rattle.mu_tree.specs.declared.refusal.Refusal.TheVariants.{Syntax, Limit, Unknown}
 use Rattle.mu_tree.specs.declared.refusal.LimitWord.{LimitWord}
-use Rattle.mu_text.specs.Reading.{is_blank}
-use Rattle.mu_text.specs.Lexemes.{Lexeme, after_first, items_of}
-use Rattle.mu_text.specs.Parts.{first_as, starts}
-use Rattle.mu_text.specs.SimpleParts.{is_word, name_of}
+use Rattle.mu_grammar.specs.Reading.{is_blank}
+use Rattle.mu_grammar.specs.Lexemes.{Lexeme, after_first, items_of}
+use Rattle.mu_grammar.specs.Parts.{first_as, starts}
+use Rattle.mu_grammar.specs.SimpleParts.{is_word, name_of}
 use Rattle.mu_decl.specs.declared.declaration.Statement.{Statement}
 use Rattle.mu_flat.specs.Base.{is_base, is_base_constant}
 use Rattle.mu_flat.specs.Entries.{Entries}

@@ -5,7 +5,7 @@ use Rattle.mu_flat.specs.ProofTables.{leads}
 use Rattle.mu_flat.specs.Entries.{initial}
 use Rattle.mu_flat.specs.Circles.{CirclesAreExact}
 use Rattle.mu_status.specs.Statuses.{AreStatuses}
-use Rattle.mu_text.specs.Spacing.{spaced}
+use Rattle.mu_grammar.specs.Spacing.{spaced}
 use Rattle.mu_command.specs.declared.command.Command.{Command}
 use Rattle.mu_command.specs.declared.readings.Reading.TheVariants as line_reading
 use Rattle.mu_command.specs.Readings.{IsRead, reading_of}

@@ -3,7 +3,7 @@ ghost use Rattle.std.specs.Option.{option_copied};
 ghost use Rattle.std.specs.FinMap as finite;
 ghost use Rattle.mu_command.specs.Plain.{HasPlainNames};
 ghost use Rattle.mu_flat.specs.Entries.{Entries};
-ghost use Rattle.mu_text.specs.Lexemes.{items, items_of};
+ghost use Rattle.mu_grammar.specs.Lexemes.{items, items_of};
 ghost use Rattle.mu_edit.specs.Changes.{refusal};
 ghost use Rattle.mural.specs.Answers.{answer, begins_in_base, carry_out, declares as declaring_test, is_quiet as quiet_test, names_base_constant as base_name_test, outcome, past_limit, queried as asked_for, query as query_outcome, status_page, touches_base as base_test};
 
@@ -15,7 +15,8 @@ use mu_flat::{EditFault, Store, is_base, is_base_constant};
 use mu_status::{RuleStatus, status};
 use mu_tables::Work;
 use mu_text::parts::{name_bytes, sees_word};
-use mu_text::{Reader, Token, Tokens, is_blank};
+use mu_grammar::Token;
+use mu_text::{Reader, Tokens, is_blank};
 use mu_tree::{Bytes, LimitWord, Name, NoMemory, Refusal};
 use std::alloc::Global;
 

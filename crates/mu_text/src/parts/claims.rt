@@ -1,15 +1,13 @@
 ghost use Rattle.std.specs.Prelude.{◌≡◌};
-ghost use Rattle.mu_text.specs.declared.excess.Excess.{Excess};
-ghost use Rattle.mu_text.specs.Parts.{Gives, StandsEach, starts};
-ghost use Rattle.mu_text.specs.Excesses.{Raising, in_each};
-ghost use Rattle.mu_text.specs.Claims.{Hypothesis, StandsHypothesis, StandsClaim, trees_in_hypothesis, trees_in_claim, goes_on, read_hypothesis, read_hypotheses, read_concluded, read_after, read_claim};
+ghost use Rattle.mu_grammar.specs.declared.excess.Excess.{Excess};
+ghost use Rattle.mu_grammar.specs.Parts.{Gives, StandsEach, starts};
+ghost use Rattle.mu_grammar.specs.Excesses.{Raising, in_each};
+ghost use Rattle.mu_grammar.specs.Claims.{Hypothesis, StandsHypothesis, StandsClaim, trees_in_hypothesis, trees_in_claim, goes_on, read_hypothesis, read_hypotheses, read_concluded, read_after, read_claim};
 
-use crate::excess::Excess;
-use crate::fault::PartFault;
 use crate::parts::trees::tree;
 use crate::parts::{mark, sees};
 use crate::reader::Reader;
-use crate::symbol::Mark;
+use mu_grammar::{Excess, Mark, PartFault};
 use mu_tree::{Claim, Hyp, Hyps};
 use std::alloc::Global;
 
@@ -19,7 +17,7 @@ use std::alloc::Global;
 /// # Errors
 ///
 /// `Mismatch` at the first token with which no claim goes on. `NoMemory`.
-#[tactic(auto, unfolding(crate::specs::Claims::read_claim))]
+#[tactic(auto, unfolding(mu_grammar::specs::Claims::read_claim))]
 pub fn claim(alloc: Global, reader: &mut Reader, excess: &mut Excess) -> Result<Claim, PartFault>
     ensures { Gives (Raising StandsClaim trees_in_claim excess.old excess.new) (read_claim reader.old) result reader.new }
 {
@@ -89,7 +87,7 @@ fn hypotheses(
 }
 
 /// Reads a hypothesis: a tree.
-#[tactic(auto, unfolding(crate::specs::Claims::read_hypothesis))]
+#[tactic(auto, unfolding(mu_grammar::specs::Claims::read_hypothesis))]
 fn hypothesis(alloc: Global, reader: &mut Reader, excess: &mut Excess) -> Result<Hyp, PartFault>
     ensures { Gives (Raising StandsHypothesis trees_in_hypothesis excess.old excess.new) (read_hypothesis reader.old) result reader.new }
 {

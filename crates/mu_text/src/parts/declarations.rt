@@ -1,27 +1,16 @@
 ghost use Rattle.std.specs.Prelude.{◌≡◌};
-ghost use Rattle.mu_text.specs.Parts.{Gives, Same};
-ghost use Rattle.mu_text.specs.Declarations.{StandsDeclaration, read_declaration, read_shape};
+ghost use Rattle.mu_grammar.specs.Parts.{Gives, Same};
+ghost use Rattle.mu_grammar.specs.Declarations.{StandsDeclaration, read_declaration, read_shape};
 
-use crate::fault::PartFault;
 use crate::parts::{argument_kinds, kind, mark, plain_name, sees};
 use crate::reader::Reader;
-use crate::symbol::Mark;
-use mu_tree::{Kind, Name, Shape};
+use mu_grammar::{DeclaredConstant, Mark, PartFault};
+use mu_tree::Shape;
 use std::alloc::Global;
-
-/// A constant as a command declares it.
-#[derive(Debug, Drop)]
-pub struct DeclaredConstant {
-    pub name: Name,
-    /// How it is used.
-    pub shape: Shape,
-    /// The kind of what it makes.
-    pub result: Kind,
-}
 
 /// Reads how a constant is used: the kinds of its arguments in parentheses, or the kind of a binder's body in braces. Where
 /// there are neither, no token is read.
-#[tactic(auto, unfolding(crate::specs::Declarations::read_shape))]
+#[tactic(auto, unfolding(mu_grammar::specs::Declarations::read_shape))]
 fn shape(alloc: Global, reader: &mut Reader) -> Result<Shape, PartFault>
     ensures { Gives Same (read_shape reader.old) result reader.new }
 {
@@ -40,7 +29,7 @@ fn shape(alloc: Global, reader: &mut Reader) -> Result<Shape, PartFault>
 /// # Errors
 ///
 /// `Mismatch` at the first token with which no declaration goes on. `NoMemory`.
-#[tactic(auto, unfolding(crate::specs::Declarations::read_declaration))]
+#[tactic(auto, unfolding(mu_grammar::specs::Declarations::read_declaration))]
 pub fn declaration(alloc: Global, reader: &mut Reader) -> Result<DeclaredConstant, PartFault>
     ensures { Gives StandsDeclaration (read_declaration reader.old) result reader.new }
 {

@@ -1,15 +1,13 @@
 ghost use Rattle.std.specs.Prelude.{◌≡◌};
-ghost use Rattle.mu_text.specs.Parts.{Gives, StandsEach};
-ghost use Rattle.mu_text.specs.References.{StandsReference};
-ghost use Rattle.mu_text.specs.Excesses.{Raising, in_each};
-ghost use Rattle.mu_text.specs.Reasons.{StandsAbstraction, StandsReason, trees_in_abstraction, trees_in_reason, read_abstraction, read_abstractions, read_from, read_with, read_reason};
+ghost use Rattle.mu_grammar.specs.Parts.{Gives, StandsEach};
+ghost use Rattle.mu_grammar.specs.References.{StandsReference};
+ghost use Rattle.mu_grammar.specs.Excesses.{Raising, in_each};
+ghost use Rattle.mu_grammar.specs.Reasons.{StandsAbstraction, StandsReason, trees_in_abstraction, trees_in_reason, read_abstraction, read_abstractions, read_from, read_with, read_reason};
 
-use crate::excess::Excess;
-use crate::fault::PartFault;
 use crate::parts::trees::tree;
 use crate::parts::{mark, meta, name, parameters, references, sees, sees_word, word};
 use crate::reader::Reader;
-use crate::symbol::Mark;
+use mu_grammar::{Excess, Mark, PartFault};
 use mu_tree::{Given, Inst, Refs, Why};
 use std::alloc::Global;
 
@@ -19,7 +17,7 @@ use std::alloc::Global;
 /// # Errors
 ///
 /// `Mismatch` at the first token with which no abstraction goes on. `NoMemory`.
-#[tactic(auto, unfolding(crate::specs::Reasons::read_abstraction))]
+#[tactic(auto, unfolding(mu_grammar::specs::Reasons::read_abstraction))]
 pub fn abstraction(
     alloc: Global,
     reader: &mut Reader,
@@ -39,7 +37,7 @@ pub fn abstraction(
 /// # Errors
 ///
 /// `Mismatch` at the first token with which no such list goes on. `NoMemory`.
-#[tactic(auto, unfolding(crate::specs::Reasons::read_abstractions))]
+#[tactic(auto, unfolding(mu_grammar::specs::Reasons::read_abstractions))]
 pub fn abstractions(
     alloc: Global,
     reader: &mut Reader,
@@ -59,7 +57,7 @@ pub fn abstractions(
 }
 
 /// Reads `from` and references, where the word stands.
-#[tactic(auto, unfolding(crate::specs::Reasons::read_from))]
+#[tactic(auto, unfolding(mu_grammar::specs::Reasons::read_from))]
 fn from_references(alloc: Global, reader: &mut Reader) -> Result<Refs, PartFault>
     ensures { Gives (StandsEach StandsReference) (read_from reader.old) result reader.new }
 {
@@ -71,7 +69,7 @@ fn from_references(alloc: Global, reader: &mut Reader) -> Result<Refs, PartFault
 }
 
 /// Reads `with` and abstractions, where the word stands.
-#[tactic(auto, unfolding(crate::specs::Reasons::read_with))]
+#[tactic(auto, unfolding(mu_grammar::specs::Reasons::read_with))]
 fn with_abstractions(
     alloc: Global,
     reader: &mut Reader,
@@ -92,7 +90,7 @@ fn with_abstractions(
 /// # Errors
 ///
 /// `Mismatch` at the first token with which no reason goes on. `NoMemory`.
-#[tactic(auto, unfolding(crate::specs::Reasons::read_reason))]
+#[tactic(auto, unfolding(mu_grammar::specs::Reasons::read_reason))]
 pub fn reason(alloc: Global, reader: &mut Reader, excess: &mut Excess) -> Result<Why, PartFault>
     ensures { Gives (Raising StandsReason trees_in_reason excess.old excess.new) (read_reason reader.old) result reader.new }
 {

@@ -1,11 +1,10 @@
 ghost use Rattle.std.specs.Prelude.{◌≡◌};
-ghost use Rattle.mu_text.specs.Parts.{Gives, StandsEach, starts};
-ghost use Rattle.mu_text.specs.References.{StandsReference, is_place_token, read_reference, read_references};
+ghost use Rattle.mu_grammar.specs.Parts.{Gives, StandsEach, starts};
+ghost use Rattle.mu_grammar.specs.References.{StandsReference, is_place_token, read_reference, read_references};
 
-use crate::fault::PartFault;
 use crate::parts::{place, plain_name, sees};
 use crate::reader::Reader;
-use crate::symbol::{Mark, Sort, Word};
+use mu_grammar::{Mark, PartFault, Sort, Word};
 use mu_tree::{Ref, Refs};
 use std::alloc::Global;
 
@@ -20,7 +19,7 @@ fn sees_place(reader: &Reader) -> bool
 /// # Errors
 ///
 /// `Mismatch` where the first token is neither a label nor a place; then no token is passed over. `NoMemory`.
-#[tactic(auto, unfolding(crate::specs::References::read_reference, crate::specs::SimpleParts::read_plain_name, crate::specs::SimpleParts::read_place))]
+#[tactic(auto, unfolding(mu_grammar::specs::References::read_reference, mu_grammar::specs::SimpleParts::read_plain_name, mu_grammar::specs::SimpleParts::read_place))]
 pub fn reference(alloc: Global, reader: &mut Reader) -> Result<Ref, PartFault>
     ensures { Gives StandsReference (read_reference reader.old) result reader.new }
 {
@@ -37,7 +36,7 @@ pub fn reference(alloc: Global, reader: &mut Reader) -> Result<Ref, PartFault>
 /// # Errors
 ///
 /// `Mismatch` at the first token with which no such list goes on. `NoMemory`.
-#[tactic(auto, unfolding(crate::specs::References::read_references))]
+#[tactic(auto, unfolding(mu_grammar::specs::References::read_references))]
 pub fn references(alloc: Global, reader: &mut Reader) -> Result<Refs, PartFault>
     ensures { Gives (StandsEach StandsReference) (read_references reader.old) result reader.new }
 {

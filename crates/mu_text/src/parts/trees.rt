@@ -1,12 +1,11 @@
 ghost use Rattle.std.specs.Prelude.{◌≡◌};
-ghost use Rattle.mu_text.specs.Parts.{Gives};
-ghost use Rattle.mu_text.specs.Trees.{read_tree};
-ghost use Rattle.mu_text.specs.Excesses.{Raising, StandsTree, one_tree};
+ghost use Rattle.mu_grammar.specs.Parts.{Gives};
+ghost use Rattle.mu_grammar.specs.Trees.{read_tree};
+ghost use Rattle.mu_grammar.specs.Excesses.{Raising, StandsTree, one_tree};
 
 use crate::descent::MOST_NESTING;
-use crate::excess::Excess;
-use crate::fault::PartFault;
 use crate::reader::Reader;
+use mu_grammar::{Excess, PartFault};
 use mu_tree::Tree;
 use std::alloc::Global;
 

@@ -1,10 +1,10 @@
 ghost use Rattle.std.specs.Prelude.{◌≡◌, ◌∷◌, [], ◌≤◌, MatchOption, length, drop};
 ghost use Rattle.std.specs.List.{prefix_len};
 ghost use Rattle.mu_tree.specs.Names.{is_digit as digit_test, is_name_byte as name_byte_test};
-ghost use Rattle.mu_text.specs.Reading.{is_blank as blank_test, starts_positive as positive_first};
-ghost use Rattle.mu_text.specs.Tokens.{starts_letter as letter_first, starts_with as byte_first, run_length as run_length_of, dots as dots_of, name_sort as name_sort_of, is_arrow as arrow_test, is_pair as pair_test, is_single as single_test, first_token as token_of};
+ghost use Rattle.mu_grammar.specs.Reading.{is_blank as blank_test, starts_positive as positive_first};
+ghost use Rattle.mu_grammar.specs.Tokens.{starts_letter as letter_first, starts_with as byte_first, run_length as run_length_of, dots as dots_of, name_sort as name_sort_of, is_arrow as arrow_test, is_pair as pair_test, is_single as single_test, first_token as token_of};
 
-use crate::token::TokenSort;
+use mu_grammar::TokenSort;
 use mu_tree::{is_letter, is_name_byte};
 
 /// The most dots that a name has.
@@ -125,7 +125,7 @@ fn is_single(byte: u8) -> bool
 }
 
 /// The sort of the token that begins with `first`, and how many bytes it has in `rest`.
-#[tactic(auto, unfolding(crate::specs::Tokens::first_token))]
+#[tactic(auto, unfolding(mu_grammar::specs::Tokens::first_token))]
 pub(crate) fn first_token(first: u8, rest: &[u8]) -> (TokenSort, usize)
     ensures value { result ≡ token_of first rest.now }
     ensures within { result.1 ≤ length rest.now }

@@ -1,5 +1,5 @@
 use Rattle.std.proofs.Common.{refl}
-use Rattle.mu_text.specs.declared.symbol.Mark.TheVariants.{Colon}
+use Rattle.mu_grammar.specs.declared.symbol.Mark.TheVariants.{Colon}
 use Rattle.mu_command.specs.declared.forms.Form.TheVariants.{Cite}
 use Rattle.mu_command.specs.Parts.{name, plain, sign, reason}
 use Rattle.mu_command.proofs.FormLemmas.{makes, silent, raising, ends}

@@ -1,6 +1,6 @@
 use Rattle.std.proofs.Common.{refl}
 use Rattle.std.specs.Prelude.{codes}
-use Rattle.mu_text.specs.declared.symbol.Mark.TheVariants.{Colon}
+use Rattle.mu_grammar.specs.declared.symbol.Mark.TheVariants.{Colon}
 use Rattle.mu_command.specs.declared.forms.Form.TheVariants.{Line}
 use Rattle.mu_command.specs.Parts.{name, plain, given, sign, before, tree}
 use Rattle.mu_command.proofs.FormLemmas.{makes, silent, raising, ends}

@@ -1,8 +1,8 @@
 use Rattle.std.proofs.Common.{rules, ◌≡◌, length}
-use Rattle.mu_text.specs.Excesses.{no_excess}
-use Rattle.mu_text.specs.Lexemes.{items_of}
-use Rattle.mu_text.specs.Tokens.{tokens}
-use Rattle.mu_text.specs.Texts.{has_short_tokens}
+use Rattle.mu_grammar.specs.Excesses.{no_excess}
+use Rattle.mu_grammar.specs.Lexemes.{items_of}
+use Rattle.mu_grammar.specs.Tokens.{tokens}
+use Rattle.mu_grammar.specs.Texts.{has_short_tokens}
 use Rattle.mu_command.specs.Readings.{first_limit}
 use Rattle.mu_command.proofs.Lines.{read_value}
 use Rattle.mu_command.proofs.readings.read.Goals as goal

@@ -1,5 +1,5 @@
 use Rattle.std.proofs.Common.{◌≡◌, length}
-use Rattle.mu_text.specs.SimpleParts.{number_from}
+use Rattle.mu_grammar.specs.SimpleParts.{number_from}
 use Rattle.mu_text.proofs.Digits.{Room}
 use Rattle.mu_text.proofs.parts.digits_value.Given as goal
 

@@ -1,6 +1,6 @@
-use Rattle.mu_text.specs.SimpleParts.{read_kinds}
+use Rattle.mu_grammar.specs.SimpleParts.{read_kinds}
 use Rattle.mu_text.proofs.Simple.{Exact-kind}
-use Rattle.mu_text.specs.declared.symbol.Mark.TheVariants.{Comma}
+use Rattle.mu_grammar.specs.declared.symbol.Mark.TheVariants.{Comma}
 use Rattle.mu_text.proofs.Turns.{fewer, finish, finish_same, refitted, start, turn}
 use Rattle.mu_text.proofs.parts.kinds.Goals as goal
 

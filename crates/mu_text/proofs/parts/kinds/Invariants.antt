@@ -1,7 +1,7 @@
 use Rattle.std.proofs.Common.{length}
-use Rattle.mu_text.specs.declared.symbol.Mark.TheVariants.{Comma}
-use Rattle.mu_text.specs.Parts.{Same, StandsEach, separated}
-use Rattle.mu_text.specs.SimpleParts.{read_kind}
+use Rattle.mu_grammar.specs.declared.symbol.Mark.TheVariants.{Comma}
+use Rattle.mu_grammar.specs.Parts.{Same, StandsEach, separated}
+use Rattle.mu_grammar.specs.SimpleParts.{read_kind}
 use Rattle.mu_text.proofs.Turns.{Turn}
 use Rattle.mu_text.proofs.parts.kinds.Given as goal
 

@@ -1,6 +1,6 @@
-use Rattle.mu_text.specs.SimpleParts.{read_vars}
+use Rattle.mu_grammar.specs.SimpleParts.{read_vars}
 use Rattle.mu_text.proofs.Simple.{Exact-var}
-use Rattle.mu_text.specs.declared.symbol.Mark.TheVariants.{Comma}
+use Rattle.mu_grammar.specs.declared.symbol.Mark.TheVariants.{Comma}
 use Rattle.mu_text.proofs.Turns.{fewer, finish, refitted, start, turn}
 use Rattle.mu_text.proofs.parts.vars.Goals as goal
 

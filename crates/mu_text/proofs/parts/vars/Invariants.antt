@@ -1,7 +1,7 @@
 use Rattle.std.proofs.Common.{length}
-use Rattle.mu_text.specs.declared.symbol.Mark.TheVariants.{Comma}
-use Rattle.mu_text.specs.Parts.{StandsEach, separated}
-use Rattle.mu_text.specs.SimpleParts.{StandsName, read_var}
+use Rattle.mu_grammar.specs.declared.symbol.Mark.TheVariants.{Comma}
+use Rattle.mu_grammar.specs.Parts.{StandsEach, separated}
+use Rattle.mu_grammar.specs.SimpleParts.{StandsName, read_var}
 use Rattle.mu_text.proofs.Turns.{Turn}
 use Rattle.mu_text.proofs.parts.vars.Given as goal
 

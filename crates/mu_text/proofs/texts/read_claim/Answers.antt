@@ -1,8 +1,8 @@
 use Rattle.std.proofs.Common.{rules, ◌≡◌, subst, sym}
-use Rattle.mu_text.specs.Lexemes.{items_of}
-use Rattle.mu_text.specs.Parts.{End}
-use Rattle.mu_text.specs.Claims.{IsClaim, StandsClaim, claim_of, trees_in_claim, read_claim}
-use Rattle.mu_text.specs.Texts.{ReadsText}
+use Rattle.mu_grammar.specs.Lexemes.{items_of}
+use Rattle.mu_grammar.specs.Parts.{End}
+use Rattle.mu_grammar.specs.Claims.{IsClaim, StandsClaim, claim_of, trees_in_claim, read_claim}
+use Rattle.mu_grammar.specs.Texts.{ReadsText}
 use Rattle.mu_text.proofs.Limits.{claim-meant}
 use Rattle.mu_text.proofs.Lines.{reads_text}
 use Rattle.mu_text.proofs.Claims.{Exact-claim}

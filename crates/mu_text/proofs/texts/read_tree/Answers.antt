@@ -1,10 +1,10 @@
 use Rattle.std.proofs.Common.{rules, ◌≡◌, subst, sym}
-use Rattle.mu_text.specs.Lexemes.{items_of}
-use Rattle.mu_text.specs.Parts.{End}
-use Rattle.mu_text.specs.Writings.{tree_of}
-use Rattle.mu_text.specs.Trees.{OneTree, read_tree}
-use Rattle.mu_text.specs.Excesses.{one_tree, StandsTree}
-use Rattle.mu_text.specs.Texts.{ReadsText}
+use Rattle.mu_grammar.specs.Lexemes.{items_of}
+use Rattle.mu_grammar.specs.Parts.{End}
+use Rattle.mu_grammar.specs.Writings.{tree_of}
+use Rattle.mu_grammar.specs.Trees.{OneTree, read_tree}
+use Rattle.mu_grammar.specs.Excesses.{one_tree, StandsTree}
+use Rattle.mu_grammar.specs.Texts.{ReadsText}
 use Rattle.mu_text.proofs.Limits.{tree-meant}
 use Rattle.mu_text.proofs.Lines.{reads_text}
 use Rattle.mu_text.proofs.Trees.{Exact-tree}

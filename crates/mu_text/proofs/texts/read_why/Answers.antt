@@ -1,8 +1,8 @@
 use Rattle.std.proofs.Common.{rules, ◌≡◌, subst, sym}
-use Rattle.mu_text.specs.Lexemes.{items_of}
-use Rattle.mu_text.specs.Parts.{End}
-use Rattle.mu_text.specs.Reasons.{IsReason, StandsReason, why_of, trees_in_reason, read_reason}
-use Rattle.mu_text.specs.Texts.{ReadsText}
+use Rattle.mu_grammar.specs.Lexemes.{items_of}
+use Rattle.mu_grammar.specs.Parts.{End}
+use Rattle.mu_grammar.specs.Reasons.{IsReason, StandsReason, why_of, trees_in_reason, read_reason}
+use Rattle.mu_grammar.specs.Texts.{ReadsText}
 use Rattle.mu_text.proofs.Limits.{reason-meant}
 use Rattle.mu_text.proofs.Lines.{reads_text}
 use Rattle.mu_text.proofs.Reasons.{Exact-reason}

@@ -1,5 +1,5 @@
 use Rattle.std.proofs.Common.{◌≡◌, length, ◌∙◌, sym, ap, arith, length-drop, false}
-use Rattle.mu_text.specs.Reading.{is_blank}
+use Rattle.mu_grammar.specs.Reading.{is_blank}
 use Rattle.mu_text.proofs.Skips.{one_token}
 use Rattle.mu_text.proofs.tokens.read_items.Goals as goal
 

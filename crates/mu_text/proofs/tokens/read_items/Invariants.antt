@@ -1,5 +1,5 @@
 use Rattle.std.proofs.Common.{◌≡◌, ◌+◌, ◌++◌, length}
-use Rattle.mu_text.specs.Tokens.{tokens, tokens_from}
+use Rattle.mu_grammar.specs.Tokens.{tokens, tokens_from}
 use Rattle.mu_text.proofs.tokens.read_items.Given as goal
 
 abbrev pub invariant-loop-first : goal.invariant-loop-first

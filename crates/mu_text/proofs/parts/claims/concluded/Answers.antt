@@ -1,10 +1,10 @@
 use Rattle.std.specs.Prelude.{Ok}
-use Rattle.mu_text.specs.declared.symbol.Mark.TheVariants.{Turnstile}
-use Rattle.mu_text.specs.Parts.{chain, mapped}
-use Rattle.mu_text.specs.SimpleParts.{read_mark}
-use Rattle.mu_text.specs.Trees.{read_tree}
-use Rattle.mu_text.specs.Excesses.{Raising}
-use Rattle.mu_text.specs.Claims.{StandsClaim, concluding, trees_in_claim, read_hypotheses}
+use Rattle.mu_grammar.specs.declared.symbol.Mark.TheVariants.{Turnstile}
+use Rattle.mu_grammar.specs.Parts.{chain, mapped}
+use Rattle.mu_grammar.specs.SimpleParts.{read_mark}
+use Rattle.mu_grammar.specs.Trees.{read_tree}
+use Rattle.mu_grammar.specs.Excesses.{Raising}
+use Rattle.mu_grammar.specs.Claims.{StandsClaim, concluding, trees_in_claim, read_hypotheses}
 use Rattle.mu_text.proofs.Chains.{and_then, kept_made}
 use Rattle.mu_text.proofs.Claims.{claim_stands}
 use Rattle.mu_text.proofs.parts.claims.concluded.Goals as goal

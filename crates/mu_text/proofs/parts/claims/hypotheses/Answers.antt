@@ -1,6 +1,6 @@
 use Rattle.std.proofs.Common.{refl}
-use Rattle.mu_text.specs.declared.symbol.Mark.TheVariants.{Semicolon}
-use Rattle.mu_text.specs.Claims.{StandsHypothesis, trees_in_hypothesis}
+use Rattle.mu_grammar.specs.declared.symbol.Mark.TheVariants.{Semicolon}
+use Rattle.mu_grammar.specs.Claims.{StandsHypothesis, trees_in_hypothesis}
 use Rattle.mu_text.proofs.Claims.{Exact-hypothesis}
 use Rattle.mu_text.proofs.Excesses.{first_raised, next_raised, all_raised}
 use Rattle.mu_text.proofs.Turns.{advance, begin, fewer, finish}

@@ -1,8 +1,8 @@
 use Rattle.std.proofs.Common.{length}
-use Rattle.mu_text.specs.declared.excess.Excess.{Excess}
-use Rattle.mu_text.specs.declared.symbol.Mark.TheVariants.{Semicolon}
-use Rattle.mu_text.specs.Claims.{Hypothesis, StandsHypothesis, trees_in_hypothesis, read_hypothesis, read_hypotheses}
-use Rattle.mu_text.specs.Excesses.{Raising}
+use Rattle.mu_grammar.specs.declared.excess.Excess.{Excess}
+use Rattle.mu_grammar.specs.declared.symbol.Mark.TheVariants.{Semicolon}
+use Rattle.mu_grammar.specs.Claims.{Hypothesis, StandsHypothesis, trees_in_hypothesis, read_hypothesis, read_hypotheses}
+use Rattle.mu_grammar.specs.Excesses.{Raising}
 use Rattle.mu_text.proofs.Excesses.{RaisingEach}
 use Rattle.mu_text.proofs.Turns.{Turn}
 use Rattle.mu_text.proofs.parts.claims.hypotheses.Given as goal

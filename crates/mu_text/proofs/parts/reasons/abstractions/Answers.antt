@@ -1,7 +1,7 @@
 use Rattle.std.proofs.Common.{ap}
-use Rattle.mu_text.specs.declared.symbol.Mark.TheVariants.{Semicolon}
-use Rattle.mu_text.specs.Parts.{◌>>=◌, with_first, read_more}
-use Rattle.mu_text.specs.Reasons.{StandsAbstraction, trees_in_abstraction, read_abstraction, read_abstractions}
+use Rattle.mu_grammar.specs.declared.symbol.Mark.TheVariants.{Semicolon}
+use Rattle.mu_grammar.specs.Parts.{◌>>=◌, with_first, read_more}
+use Rattle.mu_grammar.specs.Reasons.{StandsAbstraction, trees_in_abstraction, read_abstraction, read_abstractions}
 use Rattle.mu_text.proofs.Reasons.{Exact-abstraction}
 use Rattle.mu_text.proofs.Excesses.{first_raised, next_raised, all_raised}
 use Rattle.mu_text.proofs.Turns.{advance, begin, fewer, finish}

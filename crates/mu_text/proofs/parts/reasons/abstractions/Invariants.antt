@@ -1,7 +1,7 @@
 use Rattle.std.proofs.Common.{length}
-use Rattle.mu_text.specs.declared.symbol.Mark.TheVariants.{Semicolon}
-use Rattle.mu_text.specs.Parts.{separated}
-use Rattle.mu_text.specs.Reasons.{StandsAbstraction, trees_in_abstraction, read_abstraction}
+use Rattle.mu_grammar.specs.declared.symbol.Mark.TheVariants.{Semicolon}
+use Rattle.mu_grammar.specs.Parts.{separated}
+use Rattle.mu_grammar.specs.Reasons.{StandsAbstraction, trees_in_abstraction, read_abstraction}
 use Rattle.mu_text.proofs.Excesses.{RaisingEach}
 use Rattle.mu_text.proofs.Turns.{Turn}
 use Rattle.mu_text.proofs.parts.reasons.abstractions.Given as goal

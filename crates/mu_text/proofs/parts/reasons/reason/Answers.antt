@@ -1,8 +1,8 @@
 use Rattle.std.specs.Prelude.{codes, Ok}
-use Rattle.mu_text.specs.Parts.{chain, mapped}
-use Rattle.mu_text.specs.SimpleParts.{read_word, read_name}
-use Rattle.mu_text.specs.Excesses.{Raising}
-use Rattle.mu_text.specs.Reasons.{by_rule, read_from, read_with, read_reason, StandsReason, trees_in_reason}
+use Rattle.mu_grammar.specs.Parts.{chain, mapped}
+use Rattle.mu_grammar.specs.SimpleParts.{read_word, read_name}
+use Rattle.mu_grammar.specs.Excesses.{Raising}
+use Rattle.mu_grammar.specs.Reasons.{by_rule, read_from, read_with, read_reason, StandsReason, trees_in_reason}
 use Rattle.mu_text.proofs.Chains.{and_then, kept_made}
 use Rattle.mu_text.proofs.parts.reasons.reason.Goals as goal
 

@@ -1,6 +1,6 @@
-use Rattle.mu_text.specs.References.{read_references}
+use Rattle.mu_grammar.specs.References.{read_references}
 use Rattle.mu_text.proofs.References.{Exact-reference}
-use Rattle.mu_text.specs.declared.symbol.Mark.TheVariants.{Comma}
+use Rattle.mu_grammar.specs.declared.symbol.Mark.TheVariants.{Comma}
 use Rattle.mu_text.proofs.Turns.{fewer, finish, refitted, start, turn}
 use Rattle.mu_text.proofs.parts.refs.references.Goals as goal
 

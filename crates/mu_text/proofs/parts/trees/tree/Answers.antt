@@ -1,8 +1,8 @@
 use Rattle.std.proofs.Common.{rules}
 use Rattle.std.specs.Prelude.{Ok, Err}
-use Rattle.mu_text.specs.Excesses.{Raising, StandsTree, one_tree}
-use Rattle.mu_text.specs.Parts.{Gives}
-use Rattle.mu_text.specs.Trees.{read_tree}
+use Rattle.mu_grammar.specs.Excesses.{Raising, StandsTree, one_tree}
+use Rattle.mu_grammar.specs.Parts.{Gives}
+use Rattle.mu_grammar.specs.Trees.{read_tree}
 use Rattle.mu_text.proofs.Chains.{kept}
 use Rattle.mu_text.proofs.Excesses.{tree_raised}
 use Rattle.mu_text.proofs.Trees.{gives_tree, stops_tree}

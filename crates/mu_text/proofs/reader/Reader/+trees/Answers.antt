@@ -1,12 +1,12 @@
 use Rattle.std.proofs.Common.{rules, ◌≡◌, ◌≤◌, [], length, ◌-◌, ◌∙◌, arith, refl}
 use Rattle.mu_tree.specs.Names.{IsName}
-use Rattle.mu_text.specs.declared.symbol.Mark.TheVariants.{Not}
-use Rattle.mu_text.specs.declared.way.Beginning.TheVariants as begins
-use Rattle.mu_text.specs.declared.way.Opening.TheVariants as opens
-use Rattle.mu_text.specs.declared.way.Ending.TheVariants as ends
-use Rattle.mu_text.specs.Lexemes.{first_sort, first_bytes}
-use Rattle.mu_text.specs.Ops.{constant_of}
-use Rattle.mu_text.specs.Machine.{beginning_of, opening_of, ending_of, want, named, binding, given}
+use Rattle.mu_grammar.specs.declared.symbol.Mark.TheVariants.{Not}
+use Rattle.mu_grammar.specs.declared.way.Beginning.TheVariants as begins
+use Rattle.mu_grammar.specs.declared.way.Opening.TheVariants as opens
+use Rattle.mu_grammar.specs.declared.way.Ending.TheVariants as ends
+use Rattle.mu_grammar.specs.Lexemes.{first_sort, first_bytes}
+use Rattle.mu_grammar.specs.Ops.{constant_of}
+use Rattle.mu_grammar.specs.Machine.{beginning_of, opening_of, ending_of, want, named, binding, given}
 use Rattle.mu_text.specs.Reads.{Stops}
 use Rattle.mu_text.proofs.Steps.{by_head, by_brace, err_var, err_colon, err_dot, err_brace, err_close, err_arguments, err_argument, binder_reads, name_alone, with_arguments, negation_goes, operation_grows, in_parens, more_arguments, last_argument, argument_unended, kept_constant, kept_not, after_shorter}
 use Rattle.mu_text.proofs.reader.Reader.+trees.Goals as goal

@@ -1,5 +1,5 @@
 use Rattle.std.proofs.Common.{ℕ, ◌≤◌, List, length, ◌+◌, ◌-◌, ◌*◌}
-use Rattle.mu_text.specs.Machine.{want, have}
+use Rattle.mu_grammar.specs.Machine.{want, have}
 use Rattle.mu_text.specs.Reads.{Goes}
 use Rattle.mu_text.proofs.Steps.{Back}
 use Rattle.mu_text.proofs.reader.Reader.+trees.Given as goal

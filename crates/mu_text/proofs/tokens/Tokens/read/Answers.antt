@@ -1,6 +1,6 @@
 use Rattle.std.proofs.Common.{List, subst, sym}
-use Rattle.mu_text.specs.declared.token.Token.{Token}
-use Rattle.mu_text.specs.Reading.{AreOnlyTokens, AreTokens}
+use Rattle.mu_grammar.specs.declared.token.Token.{Token}
+use Rattle.mu_grammar.specs.Reading.{AreOnlyTokens, AreTokens}
 use Rattle.mu_text.proofs.Kept.{tokens_are}
 use Rattle.mu_text.proofs.Only.{tokens_only}
 use Rattle.mu_text.proofs.tokens.Tokens.read.Goals as goal

@@ -1,5 +1,5 @@
 use Rattle.std.proofs.Common.{◌≡◌, ◌+◌, length}
-use Rattle.mu_text.specs.Tokens.{run_length as run_length_of}
+use Rattle.mu_grammar.specs.Tokens.{run_length as run_length_of}
 use Rattle.mu_text.proofs.tokens.lexer.run_length.Given as goal
 
 abbrev pub invariant-loop-rest : goal.invariant-loop-rest

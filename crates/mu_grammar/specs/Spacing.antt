@@ -1,8 +1,8 @@
 -- A line written again from its tokens.
 use Rattle.std.specs.Prelude.{ℕ, List, map}
 use Rattle.std.specs.List.{join_with_byte}
-use Rattle.mu_text.specs.Reading.{text_of}
-use Rattle.mu_text.specs.Tokens.{tokens}
+use Rattle.mu_grammar.specs.Reading.{text_of}
+use Rattle.mu_grammar.specs.Tokens.{tokens}
 
 -- the bytes of each token of a line
 abbrev pub texts : List ℕ → List (List ℕ)

@@ -6,13 +6,13 @@ use Rattle.std.specs.Cmp.Lexicographic.{pointwise}
 use Rattle.mu_tree.specs.Names.{IsName, is_digit}
 use Rattle.mu_tree.specs.declared.claim.Kind.{Kind}
 use Rattle.mu_tree.specs.declared.claim.Kind.TheVariants as kind
-use Rattle.mu_text.specs.declared.symbol.Word.TheVariants.{Plain, Dotted, True, Meta, Place}
-use Rattle.mu_text.specs.declared.symbol.Mark.{Mark}
-use Rattle.mu_text.specs.declared.symbol.Mark.TheVariants.{And, Or, Not, Comma}
-use Rattle.mu_text.specs.Lexemes.{Lexeme, word, mark}
-use Rattle.mu_text.specs.Marks.{is_mark}
-use Rattle.mu_text.specs.Reading.{starts_positive}
-use Rattle.mu_text.specs.Parts.{Out, OneToken, token, Separated, separated}
+use Rattle.mu_grammar.specs.declared.symbol.Word.TheVariants.{Plain, Dotted, True, Meta, Place}
+use Rattle.mu_grammar.specs.declared.symbol.Mark.{Mark}
+use Rattle.mu_grammar.specs.declared.symbol.Mark.TheVariants.{And, Or, Not, Comma}
+use Rattle.mu_grammar.specs.Lexemes.{Lexeme, word, mark}
+use Rattle.mu_grammar.specs.Marks.{is_mark}
+use Rattle.mu_grammar.specs.Reading.{starts_positive}
+use Rattle.mu_grammar.specs.Parts.{Out, OneToken, token, Separated, separated}
 
 -- the bytes of a name of one segment; an operator's word and `true` are such names too
 abbrev pub plain_name_of : Lexeme → Option (List ℕ)

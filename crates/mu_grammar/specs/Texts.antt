@@ -5,20 +5,20 @@ use Rattle.std.specs.List.{list_all, All}
 use Rattle.mu_tree.specs.Names.{is_short}
 use Rattle.mu_tree.specs.declared.refusal.LimitWord.{LimitWord}
 use Rattle.mu_tree.specs.declared.refusal.LimitWord.TheVariants as limit
-use Rattle.mu_text.specs.declared.token.Token.{Token}
-use Rattle.mu_text.specs.declared.token.TokenSort.{TokenSort}
-use Rattle.mu_text.specs.declared.token.TokenSort.TheVariants.{Meta}
-use Rattle.mu_text.specs.declared.fault.PartFault.{PartFault}
-use Rattle.mu_text.specs.declared.fault.PartFault.TheVariants as part
-use Rattle.mu_text.specs.declared.texts.TextFault.{TextFault}
-use Rattle.mu_text.specs.declared.texts.TextFault.TheVariants as fault
-use Rattle.mu_text.specs.declared.excess.Excess.{Excess}
-use Rattle.mu_text.specs.Reading.{text_of}
-use Rattle.mu_text.specs.Tokens.{tokens}
-use Rattle.mu_text.specs.Lexemes.{Lexeme, items_of}
-use Rattle.mu_text.specs.Parts.{Refused}
-use Rattle.mu_text.specs.Writings.{Writing}
-use Rattle.mu_text.specs.Excesses.{excess_of, no_excess}
+use Rattle.mu_grammar.specs.declared.token.Token.{Token}
+use Rattle.mu_grammar.specs.declared.token.TokenSort.{TokenSort}
+use Rattle.mu_grammar.specs.declared.token.TokenSort.TheVariants.{Meta}
+use Rattle.mu_grammar.specs.declared.fault.PartFault.{PartFault}
+use Rattle.mu_grammar.specs.declared.fault.PartFault.TheVariants as part
+use Rattle.mu_grammar.specs.declared.fault.TextFault.{TextFault}
+use Rattle.mu_grammar.specs.declared.fault.TextFault.TheVariants as fault
+use Rattle.mu_grammar.specs.declared.excess.Excess.{Excess}
+use Rattle.mu_grammar.specs.Reading.{text_of}
+use Rattle.mu_grammar.specs.Tokens.{tokens}
+use Rattle.mu_grammar.specs.Lexemes.{Lexeme, items_of}
+use Rattle.mu_grammar.specs.Parts.{Refused}
+use Rattle.mu_grammar.specs.Writings.{Writing}
+use Rattle.mu_grammar.specs.Excesses.{excess_of, no_excess}
 
 -- the part of a token's bytes that is made of segments
 abbrev pub segments_of : TokenSort → List ℕ → List ℕ

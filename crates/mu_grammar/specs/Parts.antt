@@ -1,10 +1,10 @@
 -- Parts of a line: the languages that they are spelled in, what reads them, and what a refusal says.
 use Rattle.std.specs.Prelude.{◌≡◌, ℕ, zero, suc, ◌+◌, ◌-◌, ◌<◌, ◌≤◌, ◌⊎◌, Bool, false, if◌then◌else◌, List, [], ◌∷◌, ◌++◌, Option, Some, None, length, take, Result, Ok, Err}
-use Rattle.mu_text.specs.declared.fault.PartFault.{PartFault}
-use Rattle.mu_text.specs.declared.fault.PartFault.TheVariants.{Mismatch, NoMemory}
-use Rattle.mu_text.specs.declared.symbol.Mark.{Mark}
-use Rattle.mu_text.specs.Lexemes.{Lexeme, after_first, mark}
-use Rattle.mu_text.specs.Marks.{is_mark}
+use Rattle.mu_grammar.specs.declared.fault.PartFault.{PartFault}
+use Rattle.mu_grammar.specs.declared.fault.PartFault.TheVariants.{Mismatch, NoMemory}
+use Rattle.mu_grammar.specs.declared.symbol.Mark.{Mark}
+use Rattle.mu_grammar.specs.Lexemes.{Lexeme, after_first, mark}
+use Rattle.mu_grammar.specs.Marks.{is_mark}
 
 -- some spelling of some value begins with these tokens
 abbrev pub Begins : {A : Type 0} → (List Lexeme → A → Type 0) → List Lexeme → Type 0

@@ -2,17 +2,17 @@
 use Rattle.std.specs.Prelude.{ℕ, ◌-◌, if◌then◌else◌, ◌==◌, List, [], ◌∷◌, length, drop, slice_index, map, Option, Some, None, count_by, codes}
 use Rattle.std.specs.Bool.{nat_eq}
 use Rattle.std.specs.Cmp.Lexicographic.{pointwise}
-use Rattle.mu_text.specs.Reading.{text_of}
-use Rattle.mu_text.specs.Tokens.{tokens}
-use Rattle.mu_text.specs.declared.token.Token.{Token}
-use Rattle.mu_text.specs.declared.token.TokenSort.{TokenSort}
-use Rattle.mu_text.specs.declared.token.TokenSort.TheVariants as token
-use Rattle.mu_text.specs.declared.symbol.Word.{Word}
-use Rattle.mu_text.specs.declared.symbol.Word.TheVariants.{Plain, Dotted, True, Meta, Place}
-use Rattle.mu_text.specs.declared.symbol.Mark.{Mark}
-use Rattle.mu_text.specs.declared.symbol.Mark.TheVariants.{And, Or, Not, Iff, Imp, Eq, Colon, Open, Close, OpenBracket, CloseBracket, OpenBrace, CloseBrace, Comma, Semicolon, Dot, Becomes, Bar, Turnstile, Arrow, Wrong}
-use Rattle.mu_text.specs.declared.symbol.Sort.{Sort}
-use Rattle.mu_text.specs.declared.symbol.Sort.TheVariants as sort
+use Rattle.mu_grammar.specs.Reading.{text_of}
+use Rattle.mu_grammar.specs.Tokens.{tokens}
+use Rattle.mu_grammar.specs.declared.token.Token.{Token}
+use Rattle.mu_grammar.specs.declared.token.TokenSort.{TokenSort}
+use Rattle.mu_grammar.specs.declared.token.TokenSort.TheVariants as token
+use Rattle.mu_grammar.specs.declared.symbol.Word.{Word}
+use Rattle.mu_grammar.specs.declared.symbol.Word.TheVariants.{Plain, Dotted, True, Meta, Place}
+use Rattle.mu_grammar.specs.declared.symbol.Mark.{Mark}
+use Rattle.mu_grammar.specs.declared.symbol.Mark.TheVariants.{And, Or, Not, Iff, Imp, Eq, Colon, Open, Close, OpenBracket, CloseBracket, OpenBrace, CloseBrace, Comma, Semicolon, Dot, Becomes, Bar, Turnstile, Arrow, Wrong}
+use Rattle.mu_grammar.specs.declared.symbol.Sort.{Sort}
+use Rattle.mu_grammar.specs.declared.symbol.Sort.TheVariants as sort
 
 -- a token as the grammar takes it: a word with its bytes, a metavariable or a place without its first byte, or a mark
 pub data Lexeme : Type 0 where

@@ -4,9 +4,9 @@ use Rattle.std.specs.Bool.{nat_eq}
 use Rattle.std.specs.List.{list_all, list_any}
 use Rattle.std.specs.Cmp.Lexicographic.{pointwise}
 use Rattle.mu_tree.specs.Names.{is_digit, is_segment, segments, are_segments, is_name}
-use Rattle.mu_text.specs.declared.token.TokenSort.{TokenSort}
-use Rattle.mu_text.specs.declared.token.TokenSort.TheVariants.{Name, Meta, Place, Symbol, Wrong}
-use Rattle.mu_text.specs.declared.token.Token.{Token}
+use Rattle.mu_grammar.specs.declared.token.TokenSort.{TokenSort}
+use Rattle.mu_grammar.specs.declared.token.TokenSort.TheVariants.{Name, Meta, Place, Symbol, Wrong}
+use Rattle.mu_grammar.specs.declared.token.Token.{Token}
 
 -- a space, a tab or a carriage return
 abbrev pub is_blank : ℕ → Bool

@@ -2,11 +2,11 @@
 use Rattle.std.specs.Prelude.{◌≡◌, Bool, true, false, List}
 use Rattle.mu_tree.specs.declared.why.Ref.{Ref}
 use Rattle.mu_tree.specs.declared.why.Ref.TheVariants as ref
-use Rattle.mu_text.specs.declared.symbol.Word.TheVariants.{Place}
-use Rattle.mu_text.specs.declared.symbol.Mark.TheVariants.{Comma}
-use Rattle.mu_text.specs.Lexemes.{Lexeme, word}
-use Rattle.mu_text.specs.Parts.{Out, either, mapped, Separated, separated}
-use Rattle.mu_text.specs.SimpleParts.{PlainName, PlaceNumber, StandsName, read_plain_name, read_place}
+use Rattle.mu_grammar.specs.declared.symbol.Word.TheVariants.{Place}
+use Rattle.mu_grammar.specs.declared.symbol.Mark.TheVariants.{Comma}
+use Rattle.mu_grammar.specs.Lexemes.{Lexeme, word}
+use Rattle.mu_grammar.specs.Parts.{Out, either, mapped, Separated, separated}
+use Rattle.mu_grammar.specs.SimpleParts.{PlainName, PlaceNumber, StandsName, read_plain_name, read_place}
 
 -- whether the token is a place
 abbrev pub is_place_token : Lexeme → Bool

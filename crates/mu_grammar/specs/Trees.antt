@@ -1,9 +1,9 @@
 -- A tree as a part of a line.
 use Rattle.std.specs.Prelude.{List}
-use Rattle.mu_text.specs.Lexemes.{Lexeme}
-use Rattle.mu_text.specs.Parts.{Out}
-use Rattle.mu_text.specs.Writings.{Writing, IsTree}
-use Rattle.mu_text.specs.Machine.{top, want, run}
+use Rattle.mu_grammar.specs.Lexemes.{Lexeme}
+use Rattle.mu_grammar.specs.Parts.{Out}
+use Rattle.mu_grammar.specs.Writings.{Writing, IsTree}
+use Rattle.mu_grammar.specs.Machine.{top, want, run}
 
 -- a tree in which at most 400 levels are open at once, as it is written
 abbrev pub OneTree : List Lexeme → Writing → Type 0

@@ -1,5 +1,5 @@
 ghost use Rattle.std.specs.Prelude.{◌≡◌};
-ghost use Rattle.mu_text.specs.Reading.{text_of};
+ghost use Rattle.mu_grammar.specs.Reading.{text_of};
 
 /// What a token is spelled as.
 #[derive(Clone, Copy, Debug, PartialEq, Eq)]

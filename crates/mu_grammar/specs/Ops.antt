@@ -1,13 +1,13 @@
 -- The operators: the token, the constant, the level and the side of each.
 use Rattle.std.specs.Prelude.{ℕ, ◌+◌, List, Option, Some, None, codes}
-use Rattle.mu_text.specs.declared.ops.Op.{Op}
-use Rattle.mu_text.specs.declared.ops.Side.{Side}
-use Rattle.mu_text.specs.declared.ops.Side.TheVariants.{Neither, Left, Right}
-use Rattle.mu_text.specs.declared.symbol.Mark.{Mark}
-use Rattle.mu_text.specs.declared.symbol.Mark.TheVariants.{And, Or, Not, Iff, Imp, Eq, Colon}
-use Rattle.mu_text.specs.declared.symbol.Sort.{Sort}
-use Rattle.mu_text.specs.declared.symbol.Sort.TheVariants as sort
-use Rattle.mu_text.specs.Lexemes.{Lexeme, sort_of}
+use Rattle.mu_grammar.specs.declared.ops.Op.{Op}
+use Rattle.mu_tables.specs.declared.ops.Side.{Side}
+use Rattle.mu_tables.specs.declared.ops.Side.TheVariants.{Neither, Left, Right}
+use Rattle.mu_grammar.specs.declared.symbol.Mark.{Mark}
+use Rattle.mu_grammar.specs.declared.symbol.Mark.TheVariants.{And, Or, Not, Iff, Imp, Eq, Colon}
+use Rattle.mu_grammar.specs.declared.symbol.Sort.{Sort}
+use Rattle.mu_grammar.specs.declared.symbol.Sort.TheVariants as sort
+use Rattle.mu_grammar.specs.Lexemes.{Lexeme, sort_of}
 
 -- the least level of the left operand: above the operator's, but for one whose side is the left
 abbrev pub left_of : ℕ → Side → ℕ

@@ -3,14 +3,14 @@ use Rattle.std.specs.Prelude.{◌≡◌, Bool, ◌||◌, List, [], ◌∷◌, �
 use Rattle.mu_tree.specs.declared.claim.Hyp.{Hyp}
 use Rattle.mu_tree.specs.declared.claim.Hyp.TheVariants as hyp
 use Rattle.mu_tree.specs.declared.claim.Claim.{Claim}
-use Rattle.mu_text.specs.declared.symbol.Mark.TheVariants.{Semicolon, Turnstile}
-use Rattle.mu_text.specs.Lexemes.{Lexeme, mark}
-use Rattle.mu_text.specs.Marks.{is_mark}
-use Rattle.mu_text.specs.Parts.{Out, chain, either, given_back, mapped, Separated, StandsEach, read_more}
-use Rattle.mu_text.specs.SimpleParts.{read_mark}
-use Rattle.mu_text.specs.Writings.{Writing, tree_of}
-use Rattle.mu_text.specs.Trees.{OneTree, read_tree}
-use Rattle.mu_text.specs.Excesses.{in_each, StandsTree}
+use Rattle.mu_grammar.specs.declared.symbol.Mark.TheVariants.{Semicolon, Turnstile}
+use Rattle.mu_grammar.specs.Lexemes.{Lexeme, mark}
+use Rattle.mu_grammar.specs.Marks.{is_mark}
+use Rattle.mu_grammar.specs.Parts.{Out, chain, either, given_back, mapped, Separated, StandsEach, read_more}
+use Rattle.mu_grammar.specs.SimpleParts.{read_mark}
+use Rattle.mu_grammar.specs.Writings.{Writing, tree_of}
+use Rattle.mu_grammar.specs.Trees.{OneTree, read_tree}
+use Rattle.mu_grammar.specs.Excesses.{in_each, StandsTree}
 
 -- a hypothesis as it is written: a tree
 pub data Hypothesis : Type 0 where

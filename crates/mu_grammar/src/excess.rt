@@ -1,7 +1,11 @@
 ghost use Rattle.std.specs.Prelude.{◌≡◌, ◌||◌, nat_lt};
-ghost use Rattle.mu_text.specs.Excesses.{no_excess};
+ghost use Rattle.mu_grammar.specs.Excesses.{no_excess};
 
-use crate::build::{MOST_DEPTH, MOST_NODES};
+/// The most nodes that a tree may have.
+pub const MOST_NODES: u64 = 4_096;
+
+/// The most nodes that a way down in a tree may have.
+pub const MOST_DEPTH: u64 = 200;
 
 /// Which limits the trees of a line pass. Where a tree passes one, another tree stands for it.
 #[derive(Clone, Copy, Debug, PartialEq, Eq)]

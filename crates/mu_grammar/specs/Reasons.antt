@@ -4,16 +4,16 @@ use Rattle.mu_tree.specs.declared.why.Ref.{Ref}
 use Rattle.mu_tree.specs.declared.why.Given.{Given}
 use Rattle.mu_tree.specs.declared.why.Why.{Why}
 use Rattle.mu_tree.specs.declared.why.Why.TheVariants as why
-use Rattle.mu_text.specs.declared.symbol.Word.TheVariants.{Meta}
-use Rattle.mu_text.specs.declared.symbol.Mark.TheVariants.{Semicolon, Becomes}
-use Rattle.mu_text.specs.Lexemes.{Lexeme, word, mark}
-use Rattle.mu_text.specs.Parts.{Out, chain, either, given_back, mapped, Separated, StandsEach, separated}
-use Rattle.mu_text.specs.SimpleParts.{AnyName, GivenWord, StandsName, is_word, read_meta, read_mark, read_word, read_name}
-use Rattle.mu_text.specs.Writings.{Writing, tree_of}
-use Rattle.mu_text.specs.Trees.{OneTree, read_tree}
-use Rattle.mu_text.specs.References.{SomeReferences, StandsReference, read_references}
-use Rattle.mu_text.specs.Groups.{Parameters, read_parameters}
-use Rattle.mu_text.specs.Excesses.{in_each, StandsTree}
+use Rattle.mu_grammar.specs.declared.symbol.Word.TheVariants.{Meta}
+use Rattle.mu_grammar.specs.declared.symbol.Mark.TheVariants.{Semicolon, Becomes}
+use Rattle.mu_grammar.specs.Lexemes.{Lexeme, word, mark}
+use Rattle.mu_grammar.specs.Parts.{Out, chain, either, given_back, mapped, Separated, StandsEach, separated}
+use Rattle.mu_grammar.specs.SimpleParts.{AnyName, GivenWord, StandsName, is_word, read_meta, read_mark, read_word, read_name}
+use Rattle.mu_grammar.specs.Writings.{Writing, tree_of}
+use Rattle.mu_grammar.specs.Trees.{OneTree, read_tree}
+use Rattle.mu_grammar.specs.References.{SomeReferences, StandsReference, read_references}
+use Rattle.mu_grammar.specs.Groups.{Parameters, read_parameters}
+use Rattle.mu_grammar.specs.Excesses.{in_each, StandsTree}
 
 -- what stands for a metavariable, as it is written
 pub record AbstractionWriting : Type 0 where

@@ -3,13 +3,13 @@ use Rattle.std.specs.Prelude.{◌≡◌, ℕ, List, ◌∷◌, ◌++◌}
 use Rattle.mu_tree.specs.declared.claim.Kind.{Kind}
 use Rattle.mu_tree.specs.declared.claim.Shape.{Shape}
 use Rattle.mu_tree.specs.declared.claim.Shape.TheVariants as shape
-use Rattle.mu_text.specs.declared.parts.declarations.DeclaredConstant.{DeclaredConstant}
-use Rattle.mu_text.specs.declared.symbol.Mark.TheVariants.{OpenBrace, CloseBrace, Arrow}
-use Rattle.mu_text.specs.Lexemes.{Lexeme, mark}
-use Rattle.mu_text.specs.Marks.{is_mark}
-use Rattle.mu_text.specs.Parts.{Out, chain, either, mapped}
-use Rattle.mu_text.specs.SimpleParts.{PlainName, OneKind, StandsName, read_plain_name, read_mark, read_kind}
-use Rattle.mu_text.specs.Groups.{Enclosed, enclosed, ArgumentKinds, read_argument_kinds}
+use Rattle.mu_grammar.specs.declared.declared.DeclaredConstant.{DeclaredConstant}
+use Rattle.mu_grammar.specs.declared.symbol.Mark.TheVariants.{OpenBrace, CloseBrace, Arrow}
+use Rattle.mu_grammar.specs.Lexemes.{Lexeme, mark}
+use Rattle.mu_grammar.specs.Marks.{is_mark}
+use Rattle.mu_grammar.specs.Parts.{Out, chain, either, mapped}
+use Rattle.mu_grammar.specs.SimpleParts.{PlainName, OneKind, StandsName, read_plain_name, read_mark, read_kind}
+use Rattle.mu_grammar.specs.Groups.{Enclosed, enclosed, ArgumentKinds, read_argument_kinds}
 
 -- how a constant is used: the kinds of its arguments in parentheses, where there are any; or the kind of a binder's body in braces
 abbrev pub IsShape : List Lexeme → Shape → Type 0

@@ -1,12 +1,12 @@
 -- Parts made of others: between two marks, or left out.
 use Rattle.std.specs.Prelude.{◌≡◌, ℕ, Bool, List, [], ◌∷◌, ◌++◌, Option, Some, None}
 use Rattle.mu_tree.specs.declared.claim.Kind.{Kind}
-use Rattle.mu_text.specs.declared.symbol.Mark.{Mark}
-use Rattle.mu_text.specs.declared.symbol.Mark.TheVariants.{Open, Close, OpenBracket, CloseBracket}
-use Rattle.mu_text.specs.Lexemes.{Lexeme, mark}
-use Rattle.mu_text.specs.Marks.{is_mark}
-use Rattle.mu_text.specs.Parts.{Out, found, ◌>>=◌, either, given_back}
-use Rattle.mu_text.specs.SimpleParts.{SomeKinds, SomeVars, read_mark, read_kinds, read_vars}
+use Rattle.mu_grammar.specs.declared.symbol.Mark.{Mark}
+use Rattle.mu_grammar.specs.declared.symbol.Mark.TheVariants.{Open, Close, OpenBracket, CloseBracket}
+use Rattle.mu_grammar.specs.Lexemes.{Lexeme, mark}
+use Rattle.mu_grammar.specs.Marks.{is_mark}
+use Rattle.mu_grammar.specs.Parts.{Out, found, ◌>>=◌, either, given_back}
+use Rattle.mu_grammar.specs.SimpleParts.{SomeKinds, SomeVars, read_mark, read_kinds, read_vars}
 
 -- a spelling between the two marks
 abbrev pub Enclosed : {A : Type 0} → Mark → Mark → (List Lexeme → A → Type 0) → List Lexeme → A → Type 0

@@ -1,15 +1,8 @@
 ghost use Rattle.std.specs.Prelude.{◌≡◌, ◌<◌};
-ghost use Rattle.mu_text.specs.Ops.{constant_of, operator_of, row as row_of};
+ghost use Rattle.mu_grammar.specs.Ops.{constant_of, operator_of, row as row_of};
 
 use crate::symbol::{Mark, Sort};
-
-/// On which side of an operator an operand may have the operator's own level.
-#[derive(Clone, Copy, Debug, PartialEq, Eq)]
-pub enum Side {
-    Neither,
-    Left,
-    Right,
-}
+use mu_tables::Side;
 
 /// An operator between two operands.
 #[derive(Clone, Copy, Debug, PartialEq, Eq)]
@@ -55,7 +48,7 @@ fn row(mark: Mark, level: u8, side: Side) -> Op
 {
     let above = level + 1;
     match side {
-        Side::Neither => Op {
+        Side::Neither | Side::Prefix => Op {
             mark,
             level,
             left: above,

@@ -1,21 +1,21 @@
 -- How tokens are read from left to right: what has been read waits on a stack. The grammar itself stands in Writings.
 use Rattle.std.specs.Prelude.{ℕ, ◌-◌, List, [], ◌∷◌, Option, Some, None, ◌&&◌, if◌then◌else◌, nat_le}
-use Rattle.mu_text.specs.declared.ops.Op.{Op}
-use Rattle.mu_text.specs.declared.symbol.Word.{Word}
-use Rattle.mu_text.specs.declared.symbol.Word.TheVariants.{Plain, Meta, Place}
-use Rattle.mu_text.specs.declared.symbol.Mark.TheVariants.{Not, Open, Close, OpenBracket, CloseBracket, OpenBrace, CloseBrace, Comma, Colon, Dot}
-use Rattle.mu_text.specs.declared.symbol.Sort.{Sort}
-use Rattle.mu_text.specs.declared.symbol.Sort.TheVariants as sort
-use Rattle.mu_text.specs.declared.way.Beginning.{Beginning}
-use Rattle.mu_text.specs.declared.way.Beginning.TheVariants as begins
-use Rattle.mu_text.specs.declared.way.Opening.{Opening}
-use Rattle.mu_text.specs.declared.way.Opening.TheVariants as opens
-use Rattle.mu_text.specs.declared.way.Ending.{Ending}
-use Rattle.mu_text.specs.declared.way.Ending.TheVariants as ends
-use Rattle.mu_text.specs.Lexemes.{Lexeme, word, mark, sort_of, bytes_of}
-use Rattle.mu_text.specs.Ops.{binary, prefix_level}
-use Rattle.mu_text.specs.Parts.{Out, found, stopped}
-use Rattle.mu_text.specs.Writings.{Writing, Writings, leaf, apply, bind, paren, neg, bin, one, more, level}
+use Rattle.mu_grammar.specs.declared.ops.Op.{Op}
+use Rattle.mu_grammar.specs.declared.symbol.Word.{Word}
+use Rattle.mu_grammar.specs.declared.symbol.Word.TheVariants.{Plain, Meta, Place}
+use Rattle.mu_grammar.specs.declared.symbol.Mark.TheVariants.{Not, Open, Close, OpenBracket, CloseBracket, OpenBrace, CloseBrace, Comma, Colon, Dot}
+use Rattle.mu_grammar.specs.declared.symbol.Sort.{Sort}
+use Rattle.mu_grammar.specs.declared.symbol.Sort.TheVariants as sort
+use Rattle.mu_grammar.specs.declared.way.Beginning.{Beginning}
+use Rattle.mu_grammar.specs.declared.way.Beginning.TheVariants as begins
+use Rattle.mu_grammar.specs.declared.way.Opening.{Opening}
+use Rattle.mu_grammar.specs.declared.way.Opening.TheVariants as opens
+use Rattle.mu_grammar.specs.declared.way.Ending.{Ending}
+use Rattle.mu_grammar.specs.declared.way.Ending.TheVariants as ends
+use Rattle.mu_grammar.specs.Lexemes.{Lexeme, word, mark, sort_of, bytes_of}
+use Rattle.mu_grammar.specs.Ops.{binary, prefix_level}
+use Rattle.mu_grammar.specs.Parts.{Out, found, stopped}
+use Rattle.mu_grammar.specs.Writings.{Writing, Writings, leaf, apply, bind, paren, neg, bin, one, more, level}
 
 -- what a tree that is wanted begins with, by its first token
 abbrev pub beginning_of : Option Sort → Beginning

@@ -2,8 +2,8 @@
 use Rattle.std.specs.Prelude.{◌≡◌, Bool, false, ◌||◌, nat_lt, List, [], ◌∷◌, ◌++◌}
 use Rattle.std.specs.List.{list_any}
 use Rattle.mu_tree.specs.declared.trees.Tree.{Tree}
-use Rattle.mu_text.specs.declared.excess.Excess.{Excess}
-use Rattle.mu_text.specs.Writings.{Writing, nodes, deep, tree_of, Kept}
+use Rattle.mu_grammar.specs.declared.excess.Excess.{Excess}
+use Rattle.mu_grammar.specs.Writings.{Writing, nodes, deep, tree_of, Kept}
 
 -- more nodes than a tree may have
 abbrev pub is_large : Writing → Bool

@@ -1,9 +1,9 @@
 -- Which mark a token is.
 use Rattle.std.specs.Prelude.{ℕ, Bool, false}
 use Rattle.std.specs.Bool.{nat_eq}
-use Rattle.mu_text.specs.declared.symbol.Mark.{Mark}
-use Rattle.mu_text.specs.declared.symbol.Mark.TheVariants.{And, Or, Not, Iff, Imp, Eq, Colon, Open, Close, OpenBracket, CloseBracket, OpenBrace, CloseBrace, Comma, Semicolon, Dot, Becomes, Bar, Turnstile, Arrow, Wrong}
-use Rattle.mu_text.specs.Lexemes.{Lexeme, word, mark}
+use Rattle.mu_grammar.specs.declared.symbol.Mark.{Mark}
+use Rattle.mu_grammar.specs.declared.symbol.Mark.TheVariants.{And, Or, Not, Iff, Imp, Eq, Colon, Open, Close, OpenBracket, CloseBracket, OpenBrace, CloseBrace, Comma, Semicolon, Dot, Becomes, Bar, Turnstile, Arrow, Wrong}
+use Rattle.mu_grammar.specs.Lexemes.{Lexeme, word, mark}
 
 -- a number of its own for each mark
 abbrev pub number_of_mark : Mark → ℕ

@@ -3,12 +3,12 @@ use Rattle.std.specs.Prelude.{◌≡◌, ℕ, ◌+◌, ◌-◌, ◌<◌, ◌≤�
 use Rattle.mu_tree.specs.Names.{IsName}
 use Rattle.mu_tree.specs.declared.trees.Tree.{Tree}
 use Rattle.mu_tree.specs.declared.trees.Tree.TheVariants as tree
-use Rattle.mu_text.specs.declared.ops.Op.{Op}
-use Rattle.mu_text.specs.declared.symbol.Word.{Word}
-use Rattle.mu_text.specs.declared.symbol.Word.TheVariants.{Plain, Meta, Place}
-use Rattle.mu_text.specs.declared.symbol.Mark.TheVariants.{Not, Open, Close, OpenBracket, CloseBracket, OpenBrace, CloseBrace, Comma, Colon, Dot}
-use Rattle.mu_text.specs.Lexemes.{Lexeme, word, mark}
-use Rattle.mu_text.specs.Ops.{binary, constant_of, prefix_level, atom_level}
+use Rattle.mu_grammar.specs.declared.ops.Op.{Op}
+use Rattle.mu_grammar.specs.declared.symbol.Word.{Word}
+use Rattle.mu_grammar.specs.declared.symbol.Word.TheVariants.{Plain, Meta, Place}
+use Rattle.mu_grammar.specs.declared.symbol.Mark.TheVariants.{Not, Open, Close, OpenBracket, CloseBracket, OpenBrace, CloseBrace, Comma, Colon, Dot}
+use Rattle.mu_grammar.specs.Lexemes.{Lexeme, word, mark}
+use Rattle.mu_grammar.specs.Ops.{binary, constant_of, prefix_level, atom_level}
 
 -- a way to write a tree: a name or a metavariable alone, or with arguments in brackets, of which there is at least one; a binder with its variable, domain and body;
 -- a tree in parentheses; `not` and its operand; or an operator's token, its row, and its operands

@@ -1,5 +1,5 @@
 ghost use Rattle.std.specs.Prelude.{◌≡◌};
-ghost use Rattle.mu_text.specs.Machine.{beginning_of, opening_of, ending_of};
+ghost use Rattle.mu_grammar.specs.Machine.{beginning_of, opening_of, ending_of};
 
 use crate::symbol::{Mark, Sort, Word};
 

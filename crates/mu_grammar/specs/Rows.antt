@@ -1,8 +1,8 @@
 -- Rows of parts: the form of a line as a list of the parts that it is made of.
 -- `Part` is a crate's own type of parts, with the type of each part's values, what spells them and what reads them.
 use Rattle.std.specs.Prelude.{◌≡◌, List, [], ◌∷◌, ◌++◌}
-use Rattle.mu_text.specs.Lexemes.{Lexeme}
-use Rattle.mu_text.specs.Parts.{Out, found, ◌>>=◌}
+use Rattle.mu_grammar.specs.Lexemes.{Lexeme}
+use Rattle.mu_grammar.specs.Parts.{Out, found, ◌>>=◌}
 
 -- a value of each part of the row
 abbrev pub Values : {Part : Type 0} → (Part → Type 0) → List Part → Type 0

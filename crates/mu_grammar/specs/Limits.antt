@@ -2,10 +2,10 @@
 use Rattle.std.specs.Prelude.{◌≡◌, Bool, true, ◌&&◌, List, []}
 use Rattle.std.specs.List.{AllByRecursion}
 use Rattle.mu_tree.specs.Names.{is_name, is_short, IsName}
-use Rattle.mu_text.specs.declared.symbol.Word.TheVariants.{Place}
-use Rattle.mu_text.specs.Lexemes.{Lexeme, word, mark}
-use Rattle.mu_text.specs.Writings.{Writing}
-use Rattle.mu_text.specs.Excesses.{excess_of, no_excess}
+use Rattle.mu_grammar.specs.declared.symbol.Word.TheVariants.{Place}
+use Rattle.mu_grammar.specs.Lexemes.{Lexeme, word, mark}
+use Rattle.mu_grammar.specs.Writings.{Writing}
+use Rattle.mu_grammar.specs.Excesses.{excess_of, no_excess}
 
 -- the name or the metavariable that the token is, if it is one, is within the limit of names
 abbrev pub WithinToken : Lexeme → Type 0
