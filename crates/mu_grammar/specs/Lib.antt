@@ -1,3 +1,4 @@
+pub mod Agreement
 pub mod Claims
 pub mod Declarations
 pub mod Excesses
@@ -14,6 +15,7 @@ pub mod References
 pub mod Rows
 pub mod SimpleParts
 pub mod Spacing
+pub mod Spellings
 pub mod Texts
 pub mod Tokens
 pub mod Trees

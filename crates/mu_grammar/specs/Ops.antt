@@ -1,5 +1,6 @@
 -- The operators: the token, the constant, the level and the side of each.
-use Rattle.std.specs.Prelude.{ℕ, ◌+◌, List, Option, Some, None, codes}
+use Rattle.std.specs.Prelude.{ℕ, ◌+◌, Bool, List, [], ◌∷◌, Option, Some, None, codes, find}
+use Rattle.std.specs.Str.{bytes_eq}
 use Rattle.mu_grammar.specs.declared.ops.Op.{Op}
 use Rattle.mu_tables.specs.declared.ops.Side.{Side}
 use Rattle.mu_tables.specs.declared.ops.Side.TheVariants.{Neither, Left, Right}
@@ -59,3 +60,24 @@ prefix_level = 5
 -- the level of an atom
 abbrev pub atom_level : ℕ
 atom_level = 7
+
+-- the marks of the operators between two operands
+abbrev pub infix_marks : List Mark
+infix_marks = Iff ∷ Imp ∷ Or ∷ And ∷ Eq ∷ Colon ∷ []
+
+-- the first of them that stands for the constant
+abbrev pub mark_named : List ℕ → Option Mark
+mark_named name = find (λ sign. bytes_eq (constant_of sign) name) infix_marks
+
+-- the operator of a mark, where there is one
+abbrev pub operator_at : Option Mark → Option Op
+operator_at None = None
+operator_at (Some sign) = operator_of (Some (sort.Mark sign))
+
+-- the operator between two operands that a constant stands for, if it is an operator's
+abbrev pub operator_named : List ℕ → Option Op
+operator_named name = operator_at (mark_named name)
+
+-- the constant stands for `not`
+abbrev pub is_negation : List ℕ → Bool
+is_negation name = bytes_eq (constant_of Not) name

@@ -68,3 +68,7 @@ abbrev pub answer : {B : Type 0} → List ℕ → Result B PartFault → ℕ →
 answer line (Ok y) left e = if left == 0 then within_limits (has_short_tokens line) y e else Err (fault.Syntax (column (tokens line) (length (tokens line) - left)))
 answer line (Err part.Mismatch) left e = Err (fault.Syntax (column (tokens line) (length (tokens line) - left)))
 answer line (Err part.NoMemory) left e = Err fault.NoMemory
+
+-- a value of the language: some text reads as it
+abbrev pub IsOfLanguage : {A B : Type 0} → (List Lexeme → A → Type 0) → (A → List Writing) → (A → B) → B → Type 0
+IsOfLanguage G trees meant y = (line : List ℕ) × ReadsText G trees meant line (Ok y)

@@ -1,5 +1,6 @@
 ghost use Rattle.std.specs.Prelude.{◌≡◌, ◌<◌};
-ghost use Rattle.mu_grammar.specs.Ops.{constant_of, operator_of, row as row_of};
+ghost use Rattle.mu_grammar.specs.Agreement.{OperatorsAgree};
+ghost use Rattle.mu_grammar.specs.Ops.{constant_of, is_negation, mark_named, operator_named, operator_of, row as row_of};
 
 use crate::symbol::{Mark, Sort};
 use mu_tables::Side;
@@ -27,8 +28,10 @@ pub const ATOM_LEVEL: u8 = 7;
 
 impl Op {
     /// The operator between two operands that a token is, if it is one.
+    #[tactic(auto, using(crate::proofs::Agreement::operators_agree))]
     pub fn of(sort: Option<Sort>) -> Option<Op>
-        ensures { result ≡ operator_of sort }
+        ensures value { result ≡ operator_of sort }
+        ensures law { OperatorsAgree }
     {
         match sort {
             Some(Sort::Mark(Mark::Iff)) => Some(row(Mark::Iff, 1, Side::Neither)),
@@ -40,6 +43,38 @@ impl Op {
             _ => None,
         }
     }
+
+    /// The operator between two operands that a constant stands for, if it is an operator's.
+    pub fn named(constant: &[u8]) -> Option<Op>
+        ensures { result ≡ operator_named constant.now }
+    {
+        match infix(constant) {
+            Some(mark) => Op::of(Some(Sort::Mark(mark))),
+            None => None,
+        }
+    }
+}
+
+/// The mark of the operator between two operands that a constant stands for.
+fn infix(name: &[u8]) -> Option<Mark>
+    ensures { result ≡ mark_named name.now }
+{
+    const INFIX: [Mark; 6] = [
+        Mark::Iff,
+        Mark::Imp,
+        Mark::Or,
+        Mark::And,
+        Mark::Eq,
+        Mark::Colon,
+    ];
+    INFIX.iter().copied().find(|mark| constant(*mark) == name)
+}
+
+/// Whether a constant stands for `not`.
+pub fn is_negation(name: &[u8]) -> bool
+    ensures { result ≡ is_negation name.now }
+{
+    name == constant(Mark::Not)
 }
 
 fn row(mark: Mark, level: u8, side: Side) -> Op

@@ -1,0 +1,4 @@
+//! Canonical text: what a tree, a claim or what a line holds by is printed as.
+#![tactic(auto)]
+
+mod pieces;
