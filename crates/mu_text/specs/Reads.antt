@@ -86,11 +86,11 @@ EndsOk m new (Err e) = Unit {0}
 abbrev pub ReadsTree : ℕ → ℕ → List Lexeme → Result Operand PartFault → List Lexeme → Type 0
 ReadsTree n m old r new = ReadsOperand n m old r new × EndsOk m new r
 
--- the operator that comes first, if it may take what has level l where the least level is m
 -- the operator comes first
 abbrev pub OperatorFirst : List Lexeme → Op → Type 0
 OperatorFirst ts p = operator_of (first_sort ts) ≡ Some p
 
+-- the operator that comes first, if it may take what has level l where the least level is m
 abbrev pub Offers : List Lexeme → ℕ → ℕ → Option Op → Type 0
 Offers ts m l None = Ends m l ts
 Offers ts m l (Some p) = OperatorFirst ts p × (m ≤ p.level) × (p.left ≤ l)

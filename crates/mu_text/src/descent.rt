@@ -17,7 +17,7 @@ use mu_tree::Name;
 use std::alloc::Global;
 
 /// The most levels that may be open at once in a tree of a line.
-pub const MOST_NESTING: u32 = 400;
+pub(crate) const MOST_NESTING: u32 = 400;
 
 impl<'a> Reader<'a> {
     // the operator that comes first, if its level is no less than the least, and a tree of this level may stand before it
@@ -67,7 +67,12 @@ impl<'a> Reader<'a> {
     /// `Mismatch` where no tree goes on: the first token that is left then, or the end of the tokens, is the first with which
     /// none does. `NoMemory`, at any tokens.
     #[cycle(trees)]
-    pub fn tree(&mut self, alloc: Global, nesting: u32, least: u8) -> Result<Operand, PartFault>
+    pub(crate) fn tree(
+        &mut self,
+        alloc: Global,
+        nesting: u32,
+        least: u8,
+    ) -> Result<Operand, PartFault>
         requires { least ≤ 7 }
         ensures shorter { length self.new ≤ length self.old }
         ensures reads { ReadsTree nesting least self.old result self.new }
@@ -137,9 +142,9 @@ impl<'a> Reader<'a> {
             return Err(PartFault::Mismatch);
         }
         self.skip();
-        let tree = self.tree(alloc, nesting - 1, 0)?;
+        let inside = self.tree(alloc, nesting - 1, 0)?;
         self.expect(Mark::Close)?;
-        Ok(atom(tree))
+        Ok(atom(inside))
     }
 
     /// Reads `not` and its operand.

@@ -9,8 +9,6 @@ mod reader;
 mod texts;
 mod tokens;
 
-pub use descent::MOST_NESTING;
-pub use operand::Operand;
 pub use reader::Reader;
 pub use texts::{are_short, column, read_claim, read_tree, read_why};
 pub use tokens::{Tokens, is_blank};

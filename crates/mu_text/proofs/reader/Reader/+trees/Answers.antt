@@ -132,12 +132,12 @@ operation-returns-clause-grows t c = λ w s.
 
 pub paren-returns-in_err-expect-clause-reads : goal.paren-returns-in_err-expect-clause-reads
 paren-returns-in_err-expect-clause-reads t c =
-    let r = c.in_ok-tree.ensures.reads in
+    let r = c.in_ok-inside.ensures.reads in
     let h : Stops (want c.args.nesting c.args.least) c.args.self.now c.expect.new.self c.in_err-expect.field-0.0 =
-    err_close c.args.nesting c.args.least c.args.self.now c.skip.new.self c.tree.new.self c.expect.new.self c.in_ok-tree.tree c.in_err-expect.field-0.0 (omega arith) c.requires.first c.skip.ensures r.0 r.1 c.in_err-expect.ensures.expects in
+    err_close c.args.nesting c.args.least c.args.self.now c.skip.new.self c.tree.new.self c.expect.new.self c.in_ok-inside.inside c.in_err-expect.field-0.0 (omega arith) c.requires.first c.skip.ensures r.0 r.1 c.in_err-expect.ensures.expects in
     search rules
 
 pub paren-returns-clause-reads : goal.paren-returns-clause-reads
 paren-returns-clause-reads t c =
-    let r = c.in_ok-tree.ensures.reads in
-    in_parens c.args.nesting c.args.least c.args.self.now c.skip.new.self c.tree.new.self c.expect.new.self c.in_ok-tree.tree c.atom.result (omega arith) c.requires.first c.skip.ensures r.0 c.in_ok-expect.ensures.expects c.atom.ensures
+    let r = c.in_ok-inside.ensures.reads in
+    in_parens c.args.nesting c.args.least c.args.self.now c.skip.new.self c.tree.new.self c.expect.new.self c.in_ok-inside.inside c.atom.result (omega arith) c.requires.first c.skip.ensures r.0 c.in_ok-expect.ensures.expects c.atom.ensures
