@@ -1,5 +1,5 @@
 -- The answer to one line: its command carried out on a store, and the reply.
-use Rattle.std.specs.Prelude.{ℕ, Bool, true, false, ◌||◌, ◌&&◌, ◌++◌, ◌==◌, nat_lt, if◌then◌else◌, List, [], ◌∷◌, length, Option, Some, None, codes}
+use Rattle.std.specs.Prelude.{ℕ, Bool, true, false, ◌||◌, ◌&&◌, ◌==◌, nat_lt, if◌then◌else◌, List, [], ◌∷◌, length, Option, Some, None, codes}
 use Rattle.std.specs.Option.{option_map_or}
 use Rattle.std.specs.FinMap as finite
 use Rattle.mu_tree.specs.declared.refusal.Refusal.{Refusal}
@@ -12,14 +12,14 @@ use Rattle.mu_grammar.specs.SimpleParts.{is_word, name_of}
 use Rattle.mu_decl.specs.declared.declaration.Statement.{Statement}
 use Rattle.mu_flat.specs.Base.{is_base, is_base_constant}
 use Rattle.mu_flat.specs.Entries.{Entries}
-use Rattle.mu_status.specs.Statuses.{status_of, word_of}
-use Rattle.mu_status.specs.declared.statuses.RuleStatus.{RuleStatus}
+use Rattle.mu_status.specs.Statuses.{status_of}
 use Rattle.mu_command.specs.declared.command.Command.{Command}
-use Rattle.mu_command.specs.declared.command.Command.TheVariants.{Theory, Constant, Axiom, Rule, Status}
+use Rattle.mu_command.specs.declared.command.Command.TheVariants.{Theory, Constant, Axiom, Rule, Status, ShowRule}
 use Rattle.mu_command.specs.declared.readings.Reading.{Reading}
 use Rattle.mu_command.specs.declared.readings.Reading.TheVariants as reading
 use Rattle.mu_command.specs.Readings.{reading_of}
 use Rattle.mu_edit.specs.Changes.{refusal, changed}
+use Rattle.mural.specs.Pages.{rule_page, status_page}
 use Rattle.mural.specs.declared.reply.Reply.{Reply}
 use Rattle.mural.specs.declared.reply.Reply.TheVariants.{Accepted, Page, Refused}
 
@@ -36,32 +36,34 @@ accept entries = record { entries = entries; reply = Accepted }
 abbrev pub refuse : Entries → Refusal → Outcome
 refuse entries refused = record { entries = entries; reply = Refused refused }
 
--- the word for a rule: an axiom, or one that wants a proof
-abbrev pub rule_word : Statement → List ℕ
-rule_word s = if s.is_axiom then codes " axiom " else codes " rule "
+-- the page that a query asks for of a rule with this statement: its whole page, or its status
+abbrev pub page : Entries → Bool → List ℕ → Statement → List ℕ
+page entries whole rule s = if whole then rule_page entries rule s (status_of entries rule s) else status_page rule s (status_of entries rule s)
 
--- the page of a query for a status
-abbrev pub status_page : List ℕ → Statement → RuleStatus → List ℕ
-status_page rule s status = rule ++ rule_word s ++ word_of status ++ 10 ∷ []
-
--- the reply to a query for the status of what is stored under a name
-abbrev pub query : Entries → List ℕ → Option Statement → Outcome
-query entries rule None = refuse entries (Unknown rule)
-query entries rule (Some s) = record { entries = entries; reply = Page (status_page rule s (status_of entries rule s)) }
+-- the reply to a query for what is stored as a rule under a name
+abbrev pub query : Entries → Bool → List ℕ → Option Statement → Outcome
+query entries whole rule None = refuse entries (Unknown rule)
+query entries whole rule (Some s) = record { entries = entries; reply = Page (page entries whole rule s) }
 
 -- the outcome of a change, by the reason for which it is refused
 abbrev pub outcome : Entries → Command → Option Refusal → Outcome
 outcome entries command None = accept (changed entries command)
 outcome entries command (Some refused) = refuse entries refused
 
--- the rule whose status a command asks for
+-- the rule that a command asks for
 abbrev pub queried : Command → Option (List ℕ)
 queried (Status rule) = Some rule
+queried (ShowRule rule) = Some rule
 queried _ = None
+
+-- it asks for the whole page of the rule
+abbrev pub shows : Command → Bool
+shows (ShowRule rule) = true
+shows _ = false
 
 -- the outcome of a command, by the rule that it asks for: a query has a page, and a change is refused for the first reason that fits or carried out
 abbrev pub step_by : Entries → Command → Option (List ℕ) → Outcome
-step_by entries command (Some rule) = query entries rule (finite.get entries.rules rule)
+step_by entries command (Some rule) = query entries (shows command) rule (finite.get entries.rules rule)
 step_by entries command None = outcome entries command (refusal entries command)
 
 -- the outcome of a command

@@ -5,17 +5,19 @@ ghost use Rattle.mu_command.specs.Plain.{HasPlainNames};
 ghost use Rattle.mu_flat.specs.Entries.{Entries};
 ghost use Rattle.mu_grammar.specs.Lexemes.{items, items_of};
 ghost use Rattle.mu_edit.specs.Changes.{refusal};
-ghost use Rattle.mural.specs.Answers.{answer, begins_in_base, carry_out, declares as declaring_test, is_quiet as quiet_test, names_base_constant as base_name_test, outcome, past_limit, queried as asked_for, query as query_outcome, status_page, touches_base as base_test};
+ghost use Rattle.mu_status.specs.Statuses.{status_of};
+ghost use Rattle.mural.specs.Answers.{answer, begins_in_base, carry_out, declares as declaring_test, is_quiet as quiet_test, names_base_constant as base_name_test, outcome, page, past_limit, queried as asked_for, query as query_outcome, shows as shows_test, touches_base as base_test};
 
+use crate::pages::{rule_page, status_page};
 use crate::reply::Reply;
 use mu_command::{Command, Reading, read};
 use mu_decl::{Context, Statement};
 use mu_edit::apply;
 use mu_flat::{EditFault, Store, is_base, is_base_constant};
 use mu_status::{RuleStatus, status};
+use mu_grammar::Token;
 use mu_tables::Work;
 use mu_text::parts::{name_bytes, sees_word};
-use mu_grammar::Token;
 use mu_text::{Reader, Tokens, is_blank};
 use mu_tree::{Bytes, LimitWord, Name, NoMemory, Refusal};
 use std::alloc::Global;
@@ -136,19 +138,26 @@ fn carry_out(alloc: Global, store: &mut Store, command: Command) -> Result<Reply
         return Ok(no_command(1));
     }
     if let Some(rule) = queried(&command) {
-        return query(alloc, store, rule);
+        return query(alloc, store, rule, shows(&command));
     }
     change_store(alloc, store, command)
 }
 
-/// The rule whose status the command asks for.
+/// The rule that the command asks for.
 fn queried(command: &Command) -> Option<&Name>
     ensures { option_copied result ≡ asked_for command.now }
 {
     match command {
-        Command::Status { rule } => Some(rule),
+        Command::Status { rule } | Command::ShowRule { rule } => Some(rule),
         _ => None,
     }
+}
+
+/// Whether the command asks for the whole page of a rule.
+fn shows(command: &Command) -> bool
+    ensures { result ≡ shows_test command.now }
+{
+    matches!(command, Command::ShowRule { .. })
 }
 
 /// Carries out a change.
@@ -183,40 +192,38 @@ fn touches_base(command: &Command) -> bool
     }
 }
 
-/// What is known of a rule.
+/// What is known of a rule: its whole page, or its status.
 ///
 /// # Errors
 ///
 /// `NoMemory`.
-fn query(alloc: Global, store: &Store, rule: &Name) -> Result<Reply, NoMemory>
-    ensures { IfOk result (λ reply. query_outcome store.now rule.now (finite.get store.now.rules rule.now) ≡ record { entries = store.now; reply = reply }) }
+fn query(alloc: Global, store: &Store, rule: &Name, whole: bool) -> Result<Reply, NoMemory>
+    ensures { IfOk result (λ reply. query_outcome store.now whole rule.now (finite.get store.now.rules rule.now) ≡ record { entries = store.now; reply = reply }) }
 {
     let mut work = Work::new();
     match (store.rule(rule), status(alloc, store, rule, &mut work)?) {
-        (Some(statement), Some(status)) => Ok(Reply::Page(status_page(
-            alloc, rule, statement, status,
-        )?)),
+        (Some(statement), Some(status)) => {
+            let text = page(alloc, store, rule, statement, status, whole)?;
+            Ok(Reply::Page(text))
+        }
         _ => Ok(Reply::Refused(Refusal::Unknown(rule.copy(alloc)?))),
     }
 }
 
-/// The page that tells the status of a rule with this statement.
-fn status_page(
+/// The page of a rule with this statement and status, whole or the status alone.
+fn page(
     alloc: Global,
+    store: &Store,
     rule: &Name,
     statement: &Statement,
     status: RuleStatus,
+    whole: bool,
 ) -> Result<Bytes, NoMemory>
-    ensures { IfOk result (λ page. page ≡ status_page rule.now statement.now status) }
+    requires { status ≡ status_of store.now rule.now statement.now }
+    ensures { IfOk result (λ text. text ≡ page store.now whole rule.now statement.now) }
 {
-    let mut page = Vec::from_slice(alloc, rule.bytes())?;
-    let sort: &[u8] = if statement.is_axiom {
-        b" axiom "
-    } else {
-        b" rule "
-    };
-    page.extend_from_slice(sort)?;
-    page.extend_from_slice(status.word().as_bytes())?;
-    page.push(b'\n')?;
-    Ok(Bytes::from_vec(page))
+    if whole {
+        return rule_page(alloc, store, rule, statement, status);
+    }
+    status_page(alloc, rule, statement, status)
 }

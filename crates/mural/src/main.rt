@@ -3,6 +3,7 @@
 
 mod answers;
 mod interpreter;
+mod pages;
 mod reply;
 mod runs;
 mod status;

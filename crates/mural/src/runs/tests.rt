@@ -1,4 +1,5 @@
 mod examples;
+mod pages;
 mod transcripts;
 mod trees;
 
@@ -6,6 +7,7 @@ use super::*;
 use examples::{FIRST, FIRST_REPLIES, examples};
 use mu_outside::{Desk, Faults};
 use mu_tree::{Bytes, NoMemory, Numbers};
+use pages::pages;
 use std::test::Fail;
 use transcripts::transcripts;
 use trees::trees;
@@ -144,6 +146,12 @@ fn answers_as_in_the_transcripts(rt: HostRuntime) -> Result<(), Fail> {
             "transcript {number} on trees"
         );
     }
+    for (number, transcript) in pages().iter().enumerate() {
+        assert!(rt;
+            is_right(rt.alloc(), transcript)?,
+            "transcript {number} on pages"
+        );
+    }
     Ok(())
 }
 
@@ -243,6 +251,7 @@ fn reads_large_trees(rt: HostRuntime) -> Result<(), Fail> {
     add_axiom(&mut input, b"h", &[(open, 401), (p, 1), (close, 401)])?;
     add_axiom(&mut input, b"i", &[(open, 4095), (p, 1), (close, 4095)])?;
     add_operators(&mut input)?;
+    add_long_texts(&mut input)?;
     input.extend_from_slice(b"status a\nstatus c\n")?;
     let mut desk = desk(alloc, &input, &[], &[])?;
     assert_eq!(rt; run(alloc, &[], &mut desk), Status::SomeRefused);
@@ -281,6 +290,14 @@ fn add_operators(input: &mut Vec<u8>) -> Result<(), NoMemory> {
     Ok(())
 }
 
+/// Adds two axioms whose canonical texts have 65,536 bytes and one more, since it has blanks that the lines have not.
+fn add_long_texts(input: &mut Vec<u8>) -> Result<(), NoMemory> {
+    let more: &[u8] = b"p;";
+    let end: &[u8] = b"p|-p";
+    add_axiom(input, b"ra", &[(more, 21839), (end, 1)])?;
+    add_axiom(input, b"rab", &[(more, 21839), (end, 1)])
+}
+
 const LARGE_REPLIES: &[u8] = b"\
 ok
 ok
@@ -304,6 +321,8 @@ refused limit nodes
 refused limit name
 refused syntax 10256
 refused syntax 1
+ok
+refused limit text
 a axiom established
 c axiom established
 ";

@@ -1,0 +1,63 @@
+-- The pages of queries.
+use Rattle.std.specs.Prelude.{ℕ, ◌++◌, List, [], ◌∷◌, Option, Some, None, codes, if◌then◌else◌}
+use Rattle.std.specs.List.{flat_map}
+use Rattle.std.specs.FinMap as finite
+use Rattle.mu_decl.specs.declared.declaration.Statement.{Statement}
+use Rattle.mu_proof.specs.declared.items.Item.{Item}
+use Rattle.mu_check.specs.declared.cause.Cause.{Cause}
+use Rattle.mu_check.specs.declared.cause.Cause.TheVariants.{NoRule, ShadowedVariable, IllFormedBox, ForeignMeta, Unfinished, NoJustification, IllFormedLine, NotAccessible, Absent, NotVisible, IllFormedDefinition, WrongCount, IllFormedInstance, HypothesisDiffers, ConclusionDiffers}
+use Rattle.mu_check.specs.declared.cause.Fault.{Fault}
+use Rattle.mu_check.specs.Verdicts.{verdict}
+use Rattle.mu_flat.specs.ProofTables.{proofs_of}
+use Rattle.mu_flat.specs.Entries.{Entries, world_of}
+use Rattle.mu_status.specs.Statuses.{status_of, word_of}
+use Rattle.mu_status.specs.declared.statuses.RuleStatus.{RuleStatus}
+use Rattle.mu_print.specs.Texts.{claim_text}
+
+-- the word for a rule: an axiom, or one that wants a proof
+abbrev pub rule_word : Statement → List ℕ
+rule_word s = if s.is_axiom then codes "axiom" else codes "rule"
+
+-- the page of a query for a status: the rule, the word for it and its status
+abbrev pub status_page : List ℕ → Statement → RuleStatus → List ℕ
+status_page rule s status = rule ++ (codes " " ++ (rule_word s ++ (codes " " ++ (word_of status ++ codes "\n"))))
+
+-- the word for a cause
+abbrev pub cause_word : Cause → List ℕ
+cause_word NoRule = codes "no-rule"
+cause_word ShadowedVariable = codes "shadowed-variable"
+cause_word IllFormedBox = codes "ill-formed-box"
+cause_word ForeignMeta = codes "foreign-meta"
+cause_word Unfinished = codes "unfinished"
+cause_word NoJustification = codes "no-justification"
+cause_word IllFormedLine = codes "ill-formed-line"
+cause_word NotAccessible = codes "not-accessible"
+cause_word Absent = codes "absent"
+cause_word NotVisible = codes "not-visible"
+cause_word IllFormedDefinition = codes "ill-formed-definition"
+cause_word WrongCount = codes "wrong-count"
+cause_word IllFormedInstance = codes "ill-formed-instance"
+cause_word HypothesisDiffers = codes "hypothesis-differs"
+cause_word ConclusionDiffers = codes "conclusion-differs"
+
+-- what is told of a verdict: that the proof checks, or the item with its first fault and the cause
+abbrev pub verdict_words : Option Fault → List ℕ
+verdict_words None = codes " checks\n"
+verdict_words (Some fault) = codes " fault " ++ (fault.label ++ (codes " " ++ (cause_word fault.cause ++ codes "\n")))
+
+-- the line of a proof of the rule, by its name and its items
+abbrev pub proof_line : Entries → List ℕ → List ℕ × List Item → List ℕ
+proof_line e rule entry = codes "proof " ++ (entry.0 ++ verdict_words (verdict (world_of e) rule entry.1))
+
+-- the lines of all proofs of the rule, in byte order of their names
+abbrev pub proof_lines : Entries → List ℕ → List ℕ
+proof_lines e rule = flat_map (proof_line e rule) (finite.entries (proofs_of e.proofs rule))
+
+-- the first line of the page of a rule: the word for it, its unit, its name, its status and its claim
+abbrev pub rule_line : List ℕ → Statement → RuleStatus → List ℕ
+rule_line rule s status =
+    rule_word s ++ (codes " " ++ (s.theory ++ (codes " " ++ (rule ++ (codes " " ++ (word_of status ++ (codes " : " ++ (claim_text s.claim ++ codes "\n"))))))))
+
+-- the page of a rule with this statement and status
+abbrev pub rule_page : Entries → List ℕ → Statement → RuleStatus → List ℕ
+rule_page e rule s status = rule_line rule s status ++ (proof_lines e rule ++ codes "end\n")
