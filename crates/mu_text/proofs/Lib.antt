@@ -17,7 +17,6 @@ pub mod Limits
 pub mod Lines
 pub mod Lists
 pub mod Marks
-pub mod Measures
 pub mod Only
 pub mod Reasons
 pub mod References
