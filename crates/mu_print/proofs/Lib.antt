@@ -1,3 +1,4 @@
 pub mod Canon
 pub mod Scan
 pub mod TreeInduction
+pub mod Words
