@@ -1,4 +1,5 @@
 pub mod Canon
+pub mod Parentheses
 pub mod Scan
 pub mod TreeInduction
 pub mod Words
