@@ -1,5 +1,6 @@
 pub mod Canon
 pub mod Parentheses
+pub mod ReadBack
 pub mod Scan
 pub mod TreeInduction
 pub mod Words

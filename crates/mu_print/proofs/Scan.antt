@@ -120,13 +120,19 @@ first_meta c x r l e s =
         ap (λ v. cond v (1 + prefix_len is_name_byte (x ++ r)) 0) (letter_is_name_byte c l) ∙ (let i = prefix_app is_name_byte x r e (front_stop r s) in let j : 1 + prefix_len is_name_byte (x ++ r) ≡ suc (length x) = omega arith in j) in
     ap (λ v. if v then (token.Meta, prefix_len is_name_byte ((c ∷ x) ++ r)) else (token.Wrong, 0)) l ∙ ap (λ n. (token.Meta, n)) n
 
-first_place : (x r : List ℕ) → SoundPlace x → Stop r → first_token 35 (x ++ r) ≡ (token.Place, length x)
+first_digits : (bytes : List ℕ) → starts_positive bytes ≡ true → first_token 35 bytes ≡ (token.Place, min 9 (prefix_len is_digit bytes))
 unfolding first_token
-first_place [] r h s = cc (h.0)
-first_place (c ∷ x) r h s =
-    let n : prefix_len is_digit ((c ∷ x) ++ r) ≡ length (c ∷ x) = prefix_app is_digit (c ∷ x) r h.1 (digits_stop r s) in
-    let m : min 9 (length (c ∷ x)) ≡ length (c ∷ x) = (let i = h.2 in grind arith) in
-    ap (λ v. if v then (token.Place, min 9 (prefix_len is_digit ((c ∷ x) ++ r))) else (token.Wrong, 0)) h.0 ∙ ap (λ n. (token.Place, n)) (ap (min 9) n ∙ m)
+first_digits bytes e = ap (λ v. if v then (token.Place, min 9 (prefix_len is_digit bytes)) else (token.Wrong, 0)) e
+
+positive_app : (x r : List ℕ) → starts_positive x ≡ true → starts_positive (x ++ r) ≡ true
+positive_app [] r e = cc
+positive_app (b ∷ x) r e = e
+
+first_place : (x r : List ℕ) → SoundPlace x → Stop r → first_token 35 (x ++ r) ≡ (token.Place, length x)
+first_place x r (positive, digits, few) s =
+    let n : prefix_len is_digit (x ++ r) ≡ length x = prefix_app is_digit x r digits (digits_stop r s) in
+    let m : min 9 (prefix_len is_digit (x ++ r)) ≡ length x = grind arith in
+    first_digits (x ++ r) (positive_app x r positive) ∙ ap (λ k. (token.Place, k)) m
 
 name_run : (w : Word) (x r : List ℕ) → SoundName w x → Stop r → scan 0 (x ++ r) ≡ word w x ∷ scan 0 r
 name_run w [] r h t = absurd h
