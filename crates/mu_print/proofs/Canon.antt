@@ -1,5 +1,5 @@
 -- The canonical writing of a tree stands for it, and fits.
-use Rattle.std.proofs.Common.{◌≡◌, ℕ, ◌+◌, ◌-◌, ◌*◌, ◌<◌, ◌≤◌, max, Bool, true, false, cond, List, [], ◌∷◌, ◌++◌, ◌&&◌, Option, Some, None, map, refl, ap, sym, ◌∙◌, subst, arith, nat_eq}
+use Rattle.std.proofs.Common.{◌≡◌, ℕ, ◌+◌, ◌-◌, ◌*◌, ◌<◌, ◌≤◌, max, Bool, true, false, cond, List, [], ◌∷◌, ◌&&◌, Option, Some, None, map, refl, ap, sym, ◌∙◌, subst, arith, nat_eq}
 use Rattle.std.specs.Prelude.{if◌then◌else◌, nat_le}
 use Rattle.std.specs.List.{AllByRecursion}
 use Rattle.std.specs.Str.{bytes_eq}
@@ -14,7 +14,7 @@ use Rattle.mu_grammar.specs.declared.symbol.Word.{Word}
 use Rattle.mu_grammar.specs.declared.symbol.Word.TheVariants as head
 use Rattle.mu_grammar.specs.declared.symbol.Mark.{Mark}
 use Rattle.mu_grammar.specs.declared.symbol.Mark.TheVariants.{And, Or, Not, Iff, Imp, Eq, Colon}
-use Rattle.mu_grammar.specs.Lexemes.{Lexeme, word, mark, name_word}
+use Rattle.mu_grammar.specs.Lexemes.{mark, name_word}
 use Rattle.mu_grammar.specs.Ops.{binary, constant_of, is_negation, operator_at, operator_named, prefix_level, atom_level}
 use Rattle.mu_grammar.specs.Writings.{Writing, Writings, leaf, apply, bind, paren, neg, bin, one, more, level, made, tree_of, trees_of, is_head, is_binder, Fits, FitsAll, tokens, IsTree}
 use Rattle.mu_grammar.proofs.Measures.{depth-app, depth-meta, depth-bind, deepest-more}
@@ -210,19 +210,19 @@ pub canonical_fits : (t : Tree) → Fits (2 * depth t) (canonical t)
 canonical_fits =
     tree_ind (λ t. Fits (2 * depth t) (canonical t))
     (λ name ts h.
-        let k : ℕ = 2 * deepest (map depth ts) in
-        at (tree.App name ts) k (applied name (map canonical ts)) (let e : depth (tree.App name ts) ≡ deepest (map depth ts) + 1 = depth-app name ts in omega arith) (canonical-app name ts)
-        (applied_fits k name (map canonical ts) (each_fits ts k (omega arith) h)))
+    let k : ℕ = 2 * deepest (map depth ts) in
+    at (tree.App name ts) k (applied name (map canonical ts)) (let e : depth (tree.App name ts) ≡ deepest (map depth ts) + 1 = depth-app name ts in omega arith) (canonical-app name ts)
+    (applied_fits k name (map canonical ts) (each_fits ts k (omega arith) h)))
     (λ name ts h.
-        let k : ℕ = 2 * deepest (map depth ts) in
-        at (tree.Meta name ts) k (headed head.Meta name (map canonical ts)) (let e : depth (tree.Meta name ts) ≡ deepest (map depth ts) + 1 = depth-meta name ts in omega arith) (canonical-meta name ts)
-        (headed_fits k head.Meta name (map canonical ts) refl (each_fits ts k (omega arith) h)))
+    let k : ℕ = 2 * deepest (map depth ts) in
+    at (tree.Meta name ts) k (headed head.Meta name (map canonical ts)) (let e : depth (tree.Meta name ts) ≡ deepest (map depth ts) + 1 = depth-meta name ts in omega arith) (canonical-meta name ts)
+    (headed_fits k head.Meta name (map canonical ts) refl (each_fits ts k (omega arith) h)))
     (λ name v d b h i.
-        let k : ℕ = 2 * max (depth d) (depth b) in
-        let p : depth d ≤ max (depth d) (depth b) = grind (arith) in
-        let q : depth b ≤ max (depth d) (depth b) = grind (arith) in
-        at (tree.Bind name v d b) k (bind (name_word name) name v (canonical d) (canonical b)) (let e : depth (tree.Bind name v d b) ≡ max (depth d) (depth b) + 1 = depth-bind name v d b in omega arith) (canonical-bind name v d b)
-        (name_binder name, omega arith, Fits-more (canonical d) (2 * depth d) (k + 2 - 1) (omega arith) h, Fits-more (canonical b) (2 * depth b) (k + 2 - 1) (omega arith) i))
+    let k : ℕ = 2 * max (depth d) (depth b) in
+    let p : depth d ≤ max (depth d) (depth b) = grind (arith) in
+    let q : depth b ≤ max (depth d) (depth b) = grind (arith) in
+    at (tree.Bind name v d b) k (bind (name_word name) name v (canonical d) (canonical b)) (let e : depth (tree.Bind name v d b) ≡ max (depth d) (depth b) + 1 = depth-bind name v d b in omega arith) (canonical-bind name v d b)
+    (name_binder name, omega arith, Fits-more (canonical d) (2 * depth d) (k + 2 - 1) (omega arith) h, Fits-more (canonical b) (2 * depth b) (k + 2 - 1) (omega arith) i))
   where
     at : (t : Tree) (k : ℕ) (w : Writing) → 2 * depth t ≡ k + 2 → canonical t ≡ w → Fits (k + 2) w → Fits (2 * depth t) (canonical t)
     at t k w e f g = subst (λ (i : ℕ). Fits i (canonical t)) (sym e) (subst (λ (v : Writing). Fits (k + 2) v) (sym f) g)

@@ -1,5 +1,5 @@
 -- No opening parenthesis of a canonical writing can be left out.
-use Rattle.std.proofs.Common.{◌≡◌, ℕ, ◌+◌, ◌-◌, ◌*◌, ◌<◌, ◌≤◌, Bool, true, false, List, [], ◌∷◌, ◌++◌, Option, Some, None, map, refl, ap, sym, ◌∙◌, subst, arith}
+use Rattle.std.proofs.Common.{◌≡◌, ℕ, ◌+◌, ◌-◌, ◌≤◌, Bool, true, false, List, [], ◌∷◌, ◌++◌, Option, Some, None, map, refl, ap, sym, ◌∙◌, subst, arith}
 use Rattle.std.specs.Prelude.{if◌then◌else◌, nat_le}
 use Rattle.std.proofs.lemmas.Bool.Decides.{nat_tests}
 use Rattle.mu_tree.specs.declared.trees.Tree.{Tree}
@@ -7,11 +7,10 @@ use Rattle.mu_tree.specs.declared.trees.Tree.TheVariants as tree
 use Rattle.mu_grammar.specs.declared.ops.Op.{Op}
 use Rattle.mu_grammar.specs.declared.symbol.Word.{Word}
 use Rattle.mu_grammar.specs.declared.symbol.Word.TheVariants.{Plain, Dotted, True, Meta, Place}
-use Rattle.mu_grammar.specs.declared.symbol.Mark.{Mark}
-use Rattle.mu_grammar.specs.declared.symbol.Mark.TheVariants.{And, Or, Not, Iff, Imp, Eq, Colon, Open, Close, OpenBrace, CloseBrace, Comma, Dot}
+use Rattle.mu_grammar.specs.declared.symbol.Mark.TheVariants.{And, Or, Not, Iff, Imp, Eq, Colon, Open, Close, CloseBrace, Comma, Dot}
 use Rattle.mu_grammar.specs.Lexemes.{Lexeme, word, mark, name_word}
 use Rattle.mu_grammar.specs.Ops.{binary, constant_of, is_negation, operator_named, prefix_level, atom_level}
-use Rattle.mu_grammar.specs.Writings.{Writing, Writings, leaf, apply, bind, paren, neg, bin, one, more, level, opener, closer, tokens, tokens_of, made, tree_of, trees_of, is_head, Fits, FitsAll, IsTree}
+use Rattle.mu_grammar.specs.Writings.{Writing, Writings, leaf, apply, bind, paren, neg, bin, one, more, level, opener, closer, tokens, tokens_of, made, tree_of, trees_of, Fits, FitsAll}
 use Rattle.mu_print.specs.Canonical.{at_least, together, headed, with_one, with_two, applied, canonical}
 use Rattle.mu_print.specs.Laws.{ParenthesesAreNeeded}
 use Rattle.mu_print.proofs.Canon.{Row, rows_of, canonical-app, canonical-meta, canonical-bind, name_case}

@@ -1,20 +1,20 @@
 -- The canonical text of a tree that some text reads as reads as that tree.
-use Rattle.std.proofs.Common.{◌≡◌, ℕ, ◌+◌, ◌≤◌, Bool, true, false, ◌||◌, List, [], ◌∷◌, Ok, refl, ap, sym, ◌∙◌, subst, arith}
+use Rattle.std.proofs.Common.{◌≡◌, ℕ, ◌≤◌, Bool, true, false, ◌||◌, List, Ok, refl, ap, sym, ◌∙◌, subst, arith}
 use Rattle.std.specs.Prelude.{nat_lt}
 use Rattle.std.proofs.lemmas.Bool.Decides.{nat_tests}
 use Rattle.mu_tree.specs.declared.trees.Tree.{Tree}
 use Rattle.mu_tree.specs.Trees.{size, depth}
 use Rattle.mu_grammar.specs.declared.excess.Excess.{Excess}
-use Rattle.mu_grammar.specs.Lexemes.{Lexeme, items_of}
+use Rattle.mu_grammar.specs.Lexemes.{items_of}
 use Rattle.mu_grammar.specs.Excesses.{excess_of, no_excess, one_tree}
 use Rattle.mu_grammar.specs.Limits.{WithinTokens}
-use Rattle.mu_grammar.specs.Texts.{has_short_tokens, IsOfLanguage, ReadsText}
+use Rattle.mu_grammar.specs.Texts.{has_short_tokens, ReadsText}
 use Rattle.mu_grammar.specs.Trees.{OneTree}
 use Rattle.mu_grammar.specs.Writings.{Writing, tokens, tree_of, nodes, deep, Fits, IsTree}
 use Rattle.mu_grammar.proofs.Measures.{size-tree, depth-tree}
-use Rattle.mu_print.specs.Canonical.{canonical, text_of, tree_text}
+use Rattle.mu_print.specs.Canonical.{canonical, tree_text}
 use Rattle.mu_print.specs.Laws.{TreesReadBack}
-use Rattle.mu_print.specs.Sound.{SoundLexemes, RightLexemes, Sounds}
+use Rattle.mu_print.specs.Sound.{SoundLexemes, RightLexemes}
 use Rattle.mu_print.proofs.Canon.{tree-canonical, canonical_is_tree}
 use Rattle.mu_print.proofs.Scan.{items-text_of}
 use Rattle.mu_print.proofs.Words.{sounds_canonical, within_canonical, right_tokens}

@@ -1,21 +1,18 @@
 -- The tokens of a text without their places, and those of a writing's text.
-use Rattle.std.proofs.Common.{◌≡◌, ℕ, zero, suc, ◌+◌, ◌-◌, ◌<◌, ◌≤◌, min, cond, List, [], ◌∷◌, ◌++◌, length, take, drop, map, Bool, true, false, ◌&&◌, ◌||◌, Option, Some, None, refl, ap, sym, ◌∙◌, subst, append_assoc, append-nil, length-append, arith}
+use Rattle.std.proofs.Common.{◌≡◌, ℕ, zero, suc, ◌+◌, ◌-◌, ◌≤◌, min, cond, List, [], ◌∷◌, ◌++◌, length, take, drop, map, Bool, true, false, ◌&&◌, ◌||◌, Some, refl, ap, sym, ◌∙◌, append_assoc, append-nil, length-append, arith}
 use Rattle.std.specs.Prelude.{if◌then◌else◌, nat_le, ◌==◌}
 use Rattle.std.specs.List.{prefix_len}
 use Rattle.std.proofs.lemmas.Bool.Decides.{nat_tests}
 use Rattle.mu_tree.specs.Names.{is_letter, is_digit, is_name_byte}
-use Rattle.mu_grammar.specs.declared.token.Token.{Token}
 use Rattle.mu_grammar.specs.declared.token.TokenSort.{TokenSort}
 use Rattle.mu_grammar.specs.declared.token.TokenSort.TheVariants as token
 use Rattle.mu_grammar.specs.Reading.{is_blank, starts_positive, text_of as bytes_at}
-use Rattle.mu_grammar.specs.Tokens.{starts_letter, starts_with, run_length, dots, is_pair, is_arrow, is_single, first_token, tokens_from}
+use Rattle.mu_grammar.specs.Tokens.{starts_letter, starts_with, run_length, dots, first_token, tokens_from}
 use Rattle.mu_grammar.specs.declared.ops.Op.{Op}
 use Rattle.mu_grammar.specs.declared.symbol.Word.{Word}
 use Rattle.mu_grammar.specs.declared.symbol.Word.TheVariants.{Plain, Dotted, True, Meta, Place}
-use Rattle.mu_grammar.specs.declared.symbol.Mark.{Mark}
-use Rattle.mu_grammar.specs.declared.symbol.Mark.TheVariants.{And, Or, Not, Iff, Imp, Eq, Colon, Open, Close, OpenBracket, CloseBracket, OpenBrace, CloseBrace, Comma, Dot}
-use Rattle.mu_grammar.specs.declared.symbol.Sort.TheVariants as sort
-use Rattle.mu_grammar.specs.Lexemes.{Lexeme, word, mark, item, items_of, item_of, sort_in, word_in, name_sort}
+use Rattle.mu_grammar.specs.declared.symbol.Mark.TheVariants.{And, Or, Not, Iff, Imp, Eq, Colon, Open, Close, OpenBrace, CloseBrace, Comma, Dot}
+use Rattle.mu_grammar.specs.Lexemes.{Lexeme, word, mark, item, items_of, item_of, sort_in, word_in}
 use Rattle.mu_grammar.specs.Ops.{binary}
 use Rattle.mu_grammar.specs.Spellings.{word_text, lexeme_text}
 use Rattle.mu_grammar.specs.Writings.{Writing, Writings, leaf, apply, bind, paren, neg, bin, one, more, opener, closer, tokens, tokens_of}
@@ -117,7 +114,7 @@ first_meta : (c : ℕ) (x r : List ℕ) → is_letter c ≡ true → prefix_len 
 unfolding first_token
 first_meta c x r l e s =
     let n : prefix_len is_name_byte ((c ∷ x) ++ r) ≡ length (c ∷ x) =
-        ap (λ v. cond v (1 + prefix_len is_name_byte (x ++ r)) 0) (letter_is_name_byte c l) ∙ (let i = prefix_app is_name_byte x r e (front_stop r s) in let j : 1 + prefix_len is_name_byte (x ++ r) ≡ suc (length x) = omega arith in j) in
+    ap (λ v. cond v (1 + prefix_len is_name_byte (x ++ r)) 0) (letter_is_name_byte c l) ∙ (let i = prefix_app is_name_byte x r e (front_stop r s) in let j : 1 + prefix_len is_name_byte (x ++ r) ≡ suc (length x) = omega arith in j) in
     ap (λ v. if v then (token.Meta, prefix_len is_name_byte ((c ∷ x) ++ r)) else (token.Wrong, 0)) l ∙ ap (λ n. (token.Meta, n)) n
 
 first_digits : (bytes : List ℕ) → starts_positive bytes ≡ true → first_token 35 bytes ≡ (token.Place, min 9 (prefix_len is_digit bytes))
@@ -304,7 +301,7 @@ unfolding item
 item_at front b n bs s =
     let d : length front + 1 + n - length front ≡ suc n = omega arith in
     let e : bytes_at (front ++ (b ∷ bs)) (record { sort = s; from = length front; to = length front + 1 + n }) ≡ b ∷ take n bs =
-        ap (λ k. take k (drop (length front) (front ++ (b ∷ bs)))) d ∙ ap (take (suc n)) (drop_front front (b ∷ bs)) in
+    ap (λ k. take k (drop (length front) (front ++ (b ∷ bs)))) d ∙ ap (take (suc n)) (drop_front front (b ∷ bs)) in
     ap (λ text. piece text s) e
 
 -- one byte later

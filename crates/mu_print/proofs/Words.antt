@@ -12,7 +12,6 @@ use Rattle.mu_grammar.specs.declared.symbol.Word.{Word}
 use Rattle.mu_grammar.specs.declared.symbol.Word.TheVariants.{Plain, Dotted, True, Meta, Place}
 use Rattle.mu_grammar.specs.declared.symbol.Mark.{Mark}
 use Rattle.mu_grammar.specs.declared.symbol.Mark.TheVariants.{And, Or, Not, Iff, Imp, Eq, Colon, Open, Close, OpenBracket, CloseBracket, OpenBrace, CloseBrace, Comma, Dot}
-use Rattle.mu_grammar.specs.declared.symbol.Sort.{Sort}
 use Rattle.mu_grammar.specs.declared.symbol.Sort.TheVariants as sort
 use Rattle.mu_grammar.specs.Lexemes.{Lexeme, word, mark, name_word, name_sort}
 use Rattle.mu_grammar.specs.Ops.{binary, constant_of, is_negation, operator_named, prefix_level}
@@ -92,9 +91,20 @@ mutual
   pub tokens_have : (Q : Lexeme → Type 0) → OfMarks Q → (n : ℕ) (w : Writing) → Fits n w → HasWords (λ s x. Q (word s x)) w → AllByRecursion Q (tokens w)
   tokens_have Q f n (leaf s x) g h = (h, tt)
   tokens_have Q f n (apply s x ws) g h = (h.0, (opener_has Q f s, all_from Q (tokens_of ws) (closer s ∷ []) (tokens_have_all Q f (n - 1) ws g.2 h.1) (closer_has Q f s, tt)))
-  tokens_have Q f n (bind s x v d b) g h =
-      (h.0, (f OpenBrace tt, (h.1, (f Colon tt, all_from Q (tokens d) (mark Dot ∷ (tokens b ++ mark CloseBrace ∷ [])) (tokens_have Q f (n - 1) d g.2 h.2)
-      (f Dot tt, all_from Q (tokens b) (mark CloseBrace ∷ []) (tokens_have Q f (n - 1) b g.3 h.3) (f CloseBrace tt, tt))))))
+  tokens_have Q f n (bind s x v d b) g h = (
+    h.0,
+    (
+      f OpenBrace tt,
+      (
+        h.1,
+        (
+          f Colon tt,
+          all_from Q (tokens d) (mark Dot ∷ (tokens b ++ mark CloseBrace ∷ [])) (tokens_have Q f (n - 1) d g.2 h.2)
+              (f Dot tt, all_from Q (tokens b) (mark CloseBrace ∷ []) (tokens_have Q f (n - 1) b g.3 h.3) (f CloseBrace tt, tt)),
+        ),
+      ),
+    ),
+  )
   tokens_have Q f n (paren w) g h = (f Open tt, all_from Q (tokens w) (mark Close ∷ []) (tokens_have Q f (n - 1) w g.1 h) (f Close tt, tt))
   tokens_have Q f n (neg w) g h = (f Not tt, tokens_have Q f (n - 1) w g.2 h)
   tokens_have Q f n (bin item o a b) g h = all_from Q (tokens a) (item ∷ tokens b) (tokens_have Q f n a g.2 h.0) (operator_has Q f item o g.0, tokens_have Q f (n - o.opens) b g.5 h.1)

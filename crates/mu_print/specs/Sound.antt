@@ -1,9 +1,9 @@
 -- Words that are read back from the bytes that they are spelled with.
-use Rattle.std.specs.Prelude.{◌≡◌, ℕ, ◌≤◌, Bool, true, List, [], ◌∷◌, length, Some}
+use Rattle.std.specs.Prelude.{◌≡◌, ℕ, ◌≤◌, true, List, [], ◌∷◌, length, Some}
 use Rattle.std.specs.List.{AllByRecursion, prefix_len}
 use Rattle.mu_tree.specs.Names.{is_letter, is_digit, is_name_byte}
 use Rattle.mu_grammar.specs.declared.symbol.Word.{Word}
-use Rattle.mu_grammar.specs.declared.symbol.Word.TheVariants.{Plain, Dotted, True, Meta, Place}
+use Rattle.mu_grammar.specs.declared.symbol.Word.TheVariants.{Plain, Meta, Place}
 use Rattle.mu_grammar.specs.declared.symbol.Mark.TheVariants.{Wrong}
 use Rattle.mu_grammar.specs.declared.symbol.Sort.TheVariants as sort
 use Rattle.mu_grammar.specs.Reading.{starts_positive}
