@@ -1,3 +1,4 @@
 pub mod Agreement
 pub mod Digits
+pub mod Numbers
 pub mod Runs
