@@ -1,4 +1,5 @@
 pub mod Agreement
+pub mod Bare
 pub mod Digits
 pub mod Numbers
 pub mod Runs
