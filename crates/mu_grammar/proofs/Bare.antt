@@ -5,7 +5,7 @@ use Rattle.std.specs.List.{list_all, prefix_len, AllByRecursion}
 use Rattle.std.proofs.lemmas.Bool.{and_parts, and_from, cond_both, eqb-true}
 use Rattle.std.proofs.lemmas.Bool.Decides.{nat_tests}
 use Rattle.std.proofs.Math.Seq.{drop-append_seam, take_all}
-use Rattle.std.proofs.lemmas.List.{length-take-le}
+use Rattle.std.proofs.lemmas.List.{length-take}
 use Rattle.mu_tree.specs.Names.{is_letter, is_digit, is_name_byte, is_segment, is_name, segments, are_segments}
 use Rattle.mu_grammar.specs.declared.token.Token.{Token}
 use Rattle.mu_grammar.specs.declared.token.TokenSort.{TokenSort}
@@ -89,3 +89,64 @@ prefix_passes test (suc k) (byte ∷ bytes) h = by (test byte) refl (λ i. prefi
     by false e next =
         let size : prefix_len test (byte ∷ bytes) ≡ 0 = ap (λ b. cond b (1 + prefix_len test bytes) 0) e in
         absurd (omega arith)
+
+-- the bytes that a first token has are spelled as its sort says
+abbrev CutIsSpelled : ℕ → List ℕ → TokenSort × ℕ → Type 0
+CutIsSpelled byte bytes first = Spelled first.0 (byte ∷ take first.1 bytes)
+
+name_cut : (byte : ℕ) (bytes : List ℕ) → is_letter byte ≡ true → CutIsSpelled byte bytes (name_sort (dots (take (run_length bytes) bytes)), run_length bytes)
+name_cut byte bytes letter = by (nat_le (dots (take (run_length bytes) bytes)) 2) refl
+  where
+    by : (b : Bool) → nat_le (dots (take (run_length bytes) bytes)) 2 ≡ b → CutIsSpelled byte bytes ((if b then Name else Wrong), run_length bytes)
+    by true e = (letter, run_whole bytes, grind (arith, nat_tests))
+    by false e = tt
+
+segment_cut : (bytes : List ℕ) → starts_letter bytes ≡ true → is_segment (take (prefix_len is_name_byte bytes) bytes) ≡ true
+segment_cut [] e = let no : false ≡ true = e in cc
+segment_cut (byte ∷ bytes) e =
+    let size : prefix_len is_name_byte (byte ∷ bytes) ≡ suc (prefix_len is_name_byte bytes) = ap (λ b. cond b (1 + prefix_len is_name_byte bytes) 0) (letter_is_name_byte byte e) ∙ omega arith in
+    ap (λ k. is_segment (take k (byte ∷ bytes))) size ∙ and_from (is_letter byte) _ e (prefix_passes is_name_byte (prefix_len is_name_byte bytes) bytes (omega arith))
+
+positive_is_digit : (byte : ℕ) → (nat_le 49 byte && nat_le byte 57) ≡ true → is_digit byte ≡ true
+positive_is_digit byte e = grind (arith, nat_tests)
+
+number_cut : (bytes : List ℕ) → starts_positive bytes ≡ true → is_number (take (min 9 (prefix_len is_digit bytes)) bytes) ≡ true
+number_cut [] e = let no : false ≡ true = e in cc
+number_cut (byte ∷ bytes) e =
+    let k = min 9 (prefix_len is_digit (byte ∷ bytes)) in
+    let size : prefix_len is_digit (byte ∷ bytes) ≡ 1 + prefix_len is_digit bytes = ap (λ b. cond b (1 + prefix_len is_digit bytes) 0) (positive_is_digit byte e) in
+    let some : k ≡ suc (k - 1) = omega arith in
+    let all : list_all is_digit (take k (byte ∷ bytes)) ≡ true = prefix_passes is_digit k (byte ∷ bytes) (omega arith) in
+    let starts : starts_positive (take k (byte ∷ bytes)) ≡ true = ap (λ n. starts_positive (take n (byte ∷ bytes))) some ∙ e in
+    let within : length (take k (byte ∷ bytes)) ≤ 9 = few k (byte ∷ bytes) (omega arith) in
+    and_from (starts_positive (take k (byte ∷ bytes)) && list_all is_digit (take k (byte ∷ bytes))) _ (and_from _ _ starts all) (grind (arith, nat_tests))
+  where
+    few : (n : ℕ) (text : List ℕ) → n ≤ 9 → length (take n text) ≤ 9
+    few n text h = omega (arith, length-take n text)
+
+first_spelled : (byte : ℕ) (bytes : List ℕ) → CutIsSpelled byte bytes (first_token byte bytes)
+unfolding first_token
+first_spelled byte bytes =
+    cond_both (is_letter byte) _ _ (CutIsSpelled byte bytes) (name_cut byte bytes)
+    (λ _. cond_both (byte == 63 && starts_letter bytes) _ _ (CutIsSpelled byte bytes)
+    (λ e. let parts = and_parts (byte == 63) (starts_letter bytes) e in (eqb-true _ _ parts.0, segment_cut bytes parts.1))
+    (λ _. cond_both (byte == 35 && starts_positive bytes) _ _ (CutIsSpelled byte bytes)
+    (λ e. let parts = and_parts (byte == 35) (starts_positive bytes) e in (eqb-true _ _ parts.0, number_cut bytes parts.1))
+    (λ _. cond_both (is_arrow byte bytes) _ _ (CutIsSpelled byte bytes) (λ e. omega (arith, length-take 2 bytes))
+    (λ _. cond_both (is_pair byte bytes) _ _ (CutIsSpelled byte bytes) (λ e. omega (arith, length-take 1 bytes))
+    (λ _. cond_both (is_single byte) (Symbol, 0) (Wrong, 0) (CutIsSpelled byte bytes) (λ e. omega arith) (λ _. tt))))))
+
+-- a token is spelled as its sort says
+abbrev pub IsSpelled : Bare → Type 0
+IsSpelled x = Spelled x.0 x.1
+
+each_spelled : (bytes : List ℕ) (skip : ℕ) → AllByRecursion IsSpelled (bares_from skip bytes)
+each_spelled [] skip = tt
+each_spelled (byte ∷ bytes) (suc skip) = each_spelled bytes skip
+each_spelled (byte ∷ bytes) zero =
+    cond_both (is_blank byte) (bares_from 0 bytes) (cut byte bytes (first_token byte bytes) ∷ bares_from (first_token byte bytes).1 bytes) (AllByRecursion IsSpelled)
+    (λ _. each_spelled bytes 0) (λ _. (first_spelled byte bytes, each_spelled bytes (first_token byte bytes).1))
+
+-- each token of a line is spelled as its sort says
+pub line_spelled : (line : List ℕ) → AllByRecursion IsSpelled (map (bare line) (tokens line))
+line_spelled line = subst (AllByRecursion IsSpelled) (sym (bares_of line)) (each_spelled line 0)
