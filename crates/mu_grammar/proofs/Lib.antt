@@ -1,5 +1,6 @@
 pub mod Agreement
 pub mod Bare
 pub mod Digits
+pub mod Measures
 pub mod Numbers
 pub mod Runs

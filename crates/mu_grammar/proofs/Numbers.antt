@@ -94,7 +94,7 @@ numbered text n true is e =
 pub number_of-bounds : (text : List ℕ) (n : ℕ) → number_of text ≡ Some n → IsPlaceNumber n
 number_of-bounds text n e = numbered text n (is_number text) refl e
 
-full_prefix : (test : ℕ → Bool) (text : List ℕ) → list_all test text ≡ true → prefix_len test text ≡ length text
+pub full_prefix : (test : ℕ → Bool) (text : List ℕ) → list_all test text ≡ true → prefix_len test text ≡ length text
 full_prefix test [] e = refl
 full_prefix test (byte ∷ bytes) e =
     let parts = and_parts (test byte) (list_all test bytes) e in

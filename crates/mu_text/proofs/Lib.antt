@@ -15,7 +15,6 @@ pub mod Limits
 pub mod Lines
 pub mod Lists
 pub mod Marks
-pub mod Measures
 pub mod Only
 pub mod Reasons
 pub mod References
