@@ -4,3 +4,4 @@ pub mod Digits
 pub mod Measures
 pub mod Numbers
 pub mod Runs
+pub mod Together
