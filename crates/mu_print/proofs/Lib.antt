@@ -1,4 +1,7 @@
 pub mod Again
 pub mod Canon
 pub mod Lines
+pub mod Scan
 pub mod TreeInduction
+pub mod TreesBack
+pub mod Words
