@@ -1,4 +1,6 @@
+pub mod Again
 pub mod Canon
+pub mod Lines
 pub mod Parentheses
 pub mod ReadBack
 pub mod Scan

@@ -1,7 +1,5 @@
-mod Digits
 mod Fronts
 mod Longest
-mod Runs
 mod Skips
 pub mod Chains
 pub mod Choice
