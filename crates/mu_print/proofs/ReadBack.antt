@@ -17,19 +17,8 @@ use Rattle.mu_print.specs.Laws.{TreesReadBack}
 use Rattle.mu_print.specs.Sound.{SoundLexemes, RightLexemes}
 use Rattle.mu_print.proofs.Canon.{tree-canonical, canonical_is_tree}
 use Rattle.mu_print.proofs.Scan.{items-text_of}
+use Rattle.mu_print.proofs.Lines.{line_sound, line_within, line_short}
 use Rattle.mu_print.proofs.Words.{sounds_canonical, within_canonical, right_tokens}
-
--- the words of a line are read back, since they were read from it
-abbrev pub LinesAreSound : Type 0
-LinesAreSound = (line : List ℕ) → SoundLexemes (items_of line)
-
--- the names of a line whose tokens are short are within the limit
-abbrev pub ShortAreWithin : Type 0
-ShortAreWithin = (line : List ℕ) → has_short_tokens line ≡ true → WithinTokens (items_of line)
-
--- and back, where each token of the line fits something
-abbrev pub WithinAreShort : Type 0
-WithinAreShort = (line : List ℕ) → RightLexemes (items_of line) → WithinTokens (items_of line) → has_short_tokens line ≡ true
 
 -- a tree's canonical writing has as many nodes as the tree
 pub nodes-canonical : (t : Tree) → nodes (canonical t) ≡ size t
@@ -72,17 +61,17 @@ pub items-tree_text : (n : ℕ) (w : Writing) → Fits n w → SoundLexemes (tok
 unfolding tree_text
 items-tree_text n w g h = items-text_of (canonical (tree_of w)) (sounds_canonical n w g h)
 
-read_back : LinesAreSound → ShortAreWithin → WithinAreShort → (line : List ℕ) (w : Writing) → IsTree 400 (items_of line) w → has_short_tokens line ≡ true → excess_of (one_tree w) ≡ no_excess
+read_back : (line : List ℕ) (w : Writing) → IsTree 400 (items_of line) w → has_short_tokens line ≡ true → excess_of (one_tree w) ≡ no_excess
     → ReadsText OneTree one_tree tree_of (tree_text (tree_of w)) (Ok (tree_of w))
-read_back sound within short line w (fits, spelled) names none =
+read_back line w (fits, spelled) names none =
     let t : Tree = tree_of w in
-    let lexed : items_of (tree_text t) ≡ tokens (canonical t) = items-tree_text 400 w fits (subst SoundLexemes (sym spelled) (sound line)) in
+    let lexed : items_of (tree_text t) ≡ tokens (canonical t) = items-tree_text 400 w fits (subst SoundLexemes (sym spelled) (line_sound line)) in
     let is : IsTree 400 (tokens (canonical t)) (canonical t) = canonical_is_tree t (depth_within w none) in
     let right : RightLexemes (items_of (tree_text t)) = subst RightLexemes (sym lexed) (right_tokens 400 (canonical t) is.0) in
-    let kept : WithinTokens (items_of (tree_text t)) = subst WithinTokens (sym lexed) (within_canonical 400 w fits (subst WithinTokens (sym spelled) (within line names))) in
-    (canonical t, (is.0, sym lexed), short (tree_text t) right kept, same_excess w ∙ none, sym (tree-canonical t))
+    let kept : WithinTokens (items_of (tree_text t)) = subst WithinTokens (sym lexed) (within_canonical 400 w fits (subst WithinTokens (sym spelled) (line_within line names))) in
+    (canonical t, (is.0, sym lexed), line_short (tree_text t) right kept, same_excess w ∙ none, sym (tree-canonical t))
 
-pub trees_read_back : LinesAreSound → ShortAreWithin → WithinAreShort → TreesReadBack
+pub trees_read_back : TreesReadBack
 unfolding TreesReadBack
-trees_read_back sound within short t (line, (w, is, names, none, same)) =
-    subst (λ (u : Tree). ReadsText OneTree one_tree tree_of (tree_text u) (Ok u)) (sym same) (read_back sound within short line w is names none)
+trees_read_back t (line, (w, is, names, none, same)) =
+    subst (λ (u : Tree). ReadsText OneTree one_tree tree_of (tree_text u) (Ok u)) (sym same) (read_back line w is names none)
