@@ -1,5 +1,6 @@
 pub mod Again
 pub mod Canon
+pub mod ClaimsBack
 pub mod Lines
 pub mod Parentheses
 pub mod ReadBack

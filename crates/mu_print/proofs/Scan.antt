@@ -58,7 +58,7 @@ no_equals byte e = grind (arith, nat_tests)
 no_digit : (byte : ℕ) → is_name_byte byte ≡ false → is_digit byte ≡ false
 no_digit byte e = grind (arith, nat_tests)
 
-run_stop : (r : List ℕ) → Stop r → run_length r ≡ 0
+pub run_stop : (r : List ℕ) → Stop r → run_length r ≡ 0
 run_stop [] s = refl
 run_stop (byte ∷ r) s = rw (s.0, s.1) refl
 
