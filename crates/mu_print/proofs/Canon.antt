@@ -8,7 +8,7 @@ use Rattle.mu_tree.specs.declared.trees.Tree.{Tree}
 use Rattle.mu_tree.specs.declared.trees.Tree.TheOpen.{App, Meta, Bind}
 use Rattle.mu_tree.specs.declared.trees.Tree.TheFolds.{fold-Tree, fold-roll-Tree}
 use Rattle.mu_tree.specs.declared.trees.Tree.TheVariants as tree
-use Rattle.mu_tree.specs.Trees.{depth, deepest}
+use Rattle.mu_tree.specs.Trees.{size, depth, deepest}
 use Rattle.mu_grammar.specs.declared.ops.Op.{Op}
 use Rattle.mu_grammar.specs.declared.symbol.Word.{Word}
 use Rattle.mu_grammar.specs.declared.symbol.Word.TheVariants as head
@@ -16,8 +16,8 @@ use Rattle.mu_grammar.specs.declared.symbol.Mark.{Mark}
 use Rattle.mu_grammar.specs.declared.symbol.Mark.TheVariants.{And, Or, Not, Iff, Imp, Eq, Colon}
 use Rattle.mu_grammar.specs.Lexemes.{mark, name_word}
 use Rattle.mu_grammar.specs.Ops.{binary, constant_of, is_negation, operator_at, operator_named, prefix_level, atom_level}
-use Rattle.mu_grammar.specs.Writings.{Writing, Writings, leaf, apply, bind, paren, neg, bin, one, more, level, made, tree_of, trees_of, is_head, is_binder, Fits, FitsAll, tokens, IsTree}
-use Rattle.mu_grammar.proofs.Measures.{depth-app, depth-meta, depth-bind, deepest-more}
+use Rattle.mu_grammar.specs.Writings.{Writing, Writings, leaf, apply, bind, paren, neg, bin, one, more, level, made, tree_of, trees_of, is_head, is_binder, Fits, FitsAll, tokens, IsTree, nodes, deep}
+use Rattle.mu_grammar.proofs.Measures.{size-tree, depth-tree, depth-app, depth-meta, depth-bind, deepest-more}
 use Rattle.mu_print.specs.Canonical.{at_least, together, headed, with_one, with_two, applied, canonical_step, canonical}
 use Rattle.mu_print.proofs.TreeInduction.{tree_ind}
 
@@ -139,6 +139,14 @@ tree-canonical =
   where
     made_bind : (name v : List ℕ) (d b : Writing) → tree_of (bind (name_word name) name v d b) ≡ tree.Bind name v (tree_of d) (tree_of b)
     made_bind name v d b = refl
+
+-- it has as many nodes as the tree
+pub nodes-canonical : (t : Tree) → nodes (canonical t) ≡ size t
+nodes-canonical t = sym (size-tree (canonical t)) ∙ ap size (tree-canonical t)
+
+-- and as long a longest way down
+pub deep-canonical : (t : Tree) → deep (canonical t) ≡ depth t
+deep-canonical t = sym (depth-tree (canonical t)) ∙ ap depth (tree-canonical t)
 
 -- what fits fits where more levels may be open
 mutual

@@ -3,7 +3,7 @@ pub mod Canon
 pub mod ClaimsBack
 pub mod Lines
 pub mod Parentheses
-pub mod ReadBack
 pub mod Scan
 pub mod TreeInduction
+pub mod TreesBack
 pub mod Words

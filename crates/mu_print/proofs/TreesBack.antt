@@ -1,9 +1,8 @@
 -- The canonical text of a tree reads back.
-use Rattle.std.proofs.Common.{◌≡◌, ℕ, ◌≤◌, false, List, [], ◌∷◌, refl, ap, sym, ◌∙◌, subst, arith}
+use Rattle.std.proofs.Common.{◌≡◌, ◌≤◌, false, ap, sym, ◌∙◌, subst, arith}
 use Rattle.std.specs.Prelude.{nat_lt, ◌||◌}
-use Rattle.std.specs.List.{list_any}
 use Rattle.std.proofs.lemmas.Bool.Decides.{nat_tests}
-use Rattle.mu_tree.specs.Trees.{size, depth}
+use Rattle.mu_tree.specs.Trees.{depth}
 use Rattle.mu_grammar.specs.Writings.{Writing, tokens, tree_of, nodes, deep}
 use Rattle.mu_grammar.specs.Trees.{OneTree}
 use Rattle.mu_grammar.specs.Limits.{WithinTokens}
@@ -14,7 +13,7 @@ use Rattle.mu_print.specs.Canonical.{canonical, tree_text}
 use Rattle.mu_print.specs.Laws.{TreesReadBack}
 use Rattle.mu_print.specs.Sound.{SoundLexemes}
 use Rattle.mu_print.proofs.Scan.{scans}
-use Rattle.mu_print.proofs.Canon.{tree-canonical, canonical_is_tree}
+use Rattle.mu_print.proofs.Canon.{tree-canonical, nodes-canonical, deep-canonical, canonical_is_tree}
 use Rattle.mu_print.proofs.Words.{sounds_canonical, within_canonical, right_tokens}
 use Rattle.mu_print.proofs.Again.{Reprints, reads_back}
 
@@ -22,10 +21,10 @@ not_deep : (w : Writing) → excess_of (one_tree w) ≡ no_excess → deep w ≤
 not_deep w e = let far : is_deep w ≡ false = (neither (is_deep w) false (ap (λ x. x.depth) e)).0 in grind (arith, nat_tests)
 
 same_nodes : (w : Writing) → nodes (canonical (tree_of w)) ≡ nodes w
-same_nodes w = sym (size-tree (canonical (tree_of w))) ∙ (ap size (tree-canonical (tree_of w)) ∙ size-tree w)
+same_nodes w = nodes-canonical (tree_of w) ∙ size-tree w
 
 same_deep : (w : Writing) → deep (canonical (tree_of w)) ≡ deep w
-same_deep w = sym (depth-tree (canonical (tree_of w))) ∙ (ap depth (tree-canonical (tree_of w)) ∙ depth-tree w)
+same_deep w = deep-canonical (tree_of w) ∙ depth-tree w
 
 same_limits : (w : Writing) → excess_of (one_tree (canonical (tree_of w))) ≡ excess_of (one_tree w)
 same_limits w =

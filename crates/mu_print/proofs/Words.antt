@@ -17,6 +17,7 @@ use Rattle.mu_grammar.specs.Lexemes.{Lexeme, word, mark, name_word, name_sort}
 use Rattle.mu_grammar.specs.Ops.{binary, constant_of, is_negation, operator_named, prefix_level}
 use Rattle.mu_grammar.specs.Limits.{WithinToken, WithinTokens}
 use Rattle.mu_grammar.specs.Writings.{Writing, Writings, leaf, apply, bind, paren, neg, bin, one, more, level, opener, closer, tokens, tokens_of, made, tree_of, trees_of, is_head, is_binder, Fits, FitsAll}
+use Rattle.mu_grammar.proofs.Together.{all_parts, all_together}
 use Rattle.mu_print.specs.Canonical.{at_least, together, headed, with_one, with_two, applied, canonical}
 use Rattle.mu_print.specs.Sound.{SoundName, Sound, SoundLexeme, SoundLexemes, RightLexeme, RightLexemes, Sounds, SoundsAll}
 use Rattle.mu_print.proofs.Canon.{canonical-app, canonical-meta, canonical-bind, canonical_fits, name_case}
@@ -34,14 +35,6 @@ abbrev mutual
   pub HaveWords : (Word → List ℕ → Type 0) → Writings → Type 0
   HaveWords P (one w) = HasWords P w
   HaveWords P (more w ws) = HasWords P w × HaveWords P ws
-
-pub all_parts : {A : Type 0} (Q : A → Type 0) (xs ys : List A) → AllByRecursion Q (xs ++ ys) → AllByRecursion Q xs × AllByRecursion Q ys
-all_parts Q [] ys h = (tt, h)
-all_parts Q (x ∷ xs) ys h = let r = all_parts Q xs ys h.1 in ((h.0, r.0), r.1)
-
-pub all_from : {A : Type 0} (Q : A → Type 0) (xs ys : List A) → AllByRecursion Q xs → AllByRecursion Q ys → AllByRecursion Q (xs ++ ys)
-all_from Q [] ys h i = i
-all_from Q (x ∷ xs) ys h i = (h.0, all_from Q xs ys h.1 i)
 
 -- the words of a writing are among its tokens
 mutual
@@ -90,7 +83,7 @@ operator_has Q f (mark _) o e = absurd (let no : ⊥ = cc in no)
 mutual
   pub tokens_have : (Q : Lexeme → Type 0) → OfMarks Q → (n : ℕ) (w : Writing) → Fits n w → HasWords (λ s x. Q (word s x)) w → AllByRecursion Q (tokens w)
   tokens_have Q f n (leaf s x) g h = (h, tt)
-  tokens_have Q f n (apply s x ws) g h = (h.0, (opener_has Q f s, all_from Q (tokens_of ws) (closer s ∷ []) (tokens_have_all Q f (n - 1) ws g.2 h.1) (closer_has Q f s, tt)))
+  tokens_have Q f n (apply s x ws) g h = (h.0, (opener_has Q f s, all_together Q (tokens_of ws) (closer s ∷ []) (tokens_have_all Q f (n - 1) ws g.2 h.1) (closer_has Q f s, tt)))
   tokens_have Q f n (bind s x v d b) g h = (
     h.0,
     (
@@ -99,19 +92,19 @@ mutual
         h.1,
         (
           f Colon tt,
-          all_from Q (tokens d) (mark Dot ∷ (tokens b ++ mark CloseBrace ∷ [])) (tokens_have Q f (n - 1) d g.2 h.2)
-              (f Dot tt, all_from Q (tokens b) (mark CloseBrace ∷ []) (tokens_have Q f (n - 1) b g.3 h.3) (f CloseBrace tt, tt)),
+          all_together Q (tokens d) (mark Dot ∷ (tokens b ++ mark CloseBrace ∷ [])) (tokens_have Q f (n - 1) d g.2 h.2)
+              (f Dot tt, all_together Q (tokens b) (mark CloseBrace ∷ []) (tokens_have Q f (n - 1) b g.3 h.3) (f CloseBrace tt, tt)),
         ),
       ),
     ),
   )
-  tokens_have Q f n (paren w) g h = (f Open tt, all_from Q (tokens w) (mark Close ∷ []) (tokens_have Q f (n - 1) w g.1 h) (f Close tt, tt))
+  tokens_have Q f n (paren w) g h = (f Open tt, all_together Q (tokens w) (mark Close ∷ []) (tokens_have Q f (n - 1) w g.1 h) (f Close tt, tt))
   tokens_have Q f n (neg w) g h = (f Not tt, tokens_have Q f (n - 1) w g.2 h)
-  tokens_have Q f n (bin item o a b) g h = all_from Q (tokens a) (item ∷ tokens b) (tokens_have Q f n a g.2 h.0) (operator_has Q f item o g.0, tokens_have Q f (n - o.opens) b g.5 h.1)
+  tokens_have Q f n (bin item o a b) g h = all_together Q (tokens a) (item ∷ tokens b) (tokens_have Q f n a g.2 h.0) (operator_has Q f item o g.0, tokens_have Q f (n - o.opens) b g.5 h.1)
 
   pub tokens_have_all : (Q : Lexeme → Type 0) → OfMarks Q → (n : ℕ) (ws : Writings) → FitsAll n ws → HaveWords (λ s x. Q (word s x)) ws → AllByRecursion Q (tokens_of ws)
   tokens_have_all Q f n (one w) g h = tokens_have Q f n w g h
-  tokens_have_all Q f n (more w ws) g h = all_from Q (tokens w) (mark Comma ∷ tokens_of ws) (tokens_have Q f n w g.0 h.0) (f Comma tt, tokens_have_all Q f n ws g.1 h.1)
+  tokens_have_all Q f n (more w ws) g h = all_together Q (tokens w) (mark Comma ∷ tokens_of ws) (tokens_have Q f n w g.0 h.0) (f Comma tt, tokens_have_all Q f n ws g.1 h.1)
 
 at_least_has : (P : Word → List ℕ → Type 0) (least : ℕ) (w : Writing) → HasWords P w → HasWords P (at_least least w)
 at_least_has P least w h = by (nat_le least (level w))
