@@ -1,1 +1,7 @@
 pub mod Agreement
+pub mod Bare
+pub mod Digits
+pub mod Measures
+pub mod Numbers
+pub mod Runs
+pub mod Together

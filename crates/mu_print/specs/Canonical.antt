@@ -8,7 +8,7 @@ use Rattle.mu_grammar.specs.declared.symbol.Word.{Word}
 use Rattle.mu_grammar.specs.declared.symbol.Word.TheVariants as head
 use Rattle.mu_grammar.specs.Lexemes.{mark, name_word}
 use Rattle.mu_grammar.specs.Ops.{is_negation, operator_named, prefix_level}
-use Rattle.mu_grammar.specs.Spellings.{mark_text, word_text, lexeme_text}
+use Rattle.mu_grammar.specs.Spellings.{word_text, lexeme_text}
 use Rattle.mu_grammar.specs.Writings.{Writing, Writings, leaf, apply, bind, paren, neg, bin, one, more, level, opener, closer}
 
 -- the writing where one of at least this level is wanted: in parentheses where its own is less

@@ -1,3 +1,4 @@
 pub mod Canonical
 pub mod Laws
+pub mod Sound
 pub mod Texts

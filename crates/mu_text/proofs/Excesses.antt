@@ -11,24 +11,12 @@ use Rattle.mu_grammar.specs.Parts.{Out, Read, StandsEach}
 use Rattle.mu_grammar.specs.Writings.{Writing, nodes, deep, Short, Kept}
 use Rattle.mu_text.specs.Reads.{capped, Stands}
 use Rattle.mu_text.proofs.Turns.{each_more}
+pub use Rattle.mu_grammar.proofs.Together.{all_parts, neither, same_excess, none_together}
 use Rattle.mu_grammar.specs.Excesses.{is_large, is_deep, excess_of, no_excess, raised, in_each, one_tree, Raising, StandsTree}
 
 or_assoc : (a b c : Bool) → ((a || b) || c) ≡ (a || (b || c))
 or_assoc true b c = refl
 or_assoc false b c = refl
-
-neither : (a b : Bool) → (a || b) ≡ false → (a ≡ false) × (b ≡ false)
-neither true b e = cc
-neither false b e = (refl, e)
-
-pub same_excess : (e f : Excess) → e.nodes ≡ f.nodes → e.depth ≡ f.depth → e ≡ f
-same_excess e f i j = ap (λ b. record { nodes = b; depth = e.depth }) i ∙ ap (λ b. record { nodes = f.nodes; depth = b }) j
-
-pub none_together : (ws vs : List Writing) → excess_of (ws ++ vs) ≡ no_excess → (excess_of ws ≡ no_excess) × (excess_of vs ≡ no_excess)
-none_together ws vs e =
-    let large = neither (list_any is_large ws) (list_any is_large vs) (sym (list_any-append is_large ws vs) ∙ ap (λ x. x.nodes) e) in
-    let deep = neither (list_any is_deep ws) (list_any is_deep vs) (sym (list_any-append is_deep ws vs) ∙ ap (λ x. x.depth) e) in
-    (same_excess (excess_of ws) no_excess large.0 deep.0, same_excess (excess_of vs) no_excess large.1 deep.1)
 
 -- trees one behind the other
 pub raised-append : (ws vs : List Writing) (e : Excess) → raised (ws ++ vs) e ≡ raised vs (raised ws e)
@@ -71,10 +59,6 @@ tree_kept w short e =
     let large = neither (is_large w) false (ap (λ x. x.nodes) e) in
     let far = neither (is_deep w) false (ap (λ x. x.depth) e) in
     (short, within (nodes w) 4096 large.0, within (deep w) 200 far.0)
-
-pub all_parts : {A : Type 0} (P : A → Type 0) (xs ys : List A) → AllByRecursion P (xs ++ ys) → AllByRecursion P xs × AllByRecursion P ys
-all_parts P [] ys h = (tt, h)
-all_parts P (x ∷ xs) ys h = let rest = all_parts P xs ys h.1 in ((h.0, rest.0), rest.1)
 
 module _ {A B : Type 0} (S : A → B → Type 0) (trees : A → List Writing) where
   -- several values that stand for the spelled ones, with the limits that their trees pass

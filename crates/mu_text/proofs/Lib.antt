@@ -1,7 +1,5 @@
-mod Digits
 mod Fronts
 mod Longest
-mod Runs
 mod Skips
 pub mod Chains
 pub mod Choice
@@ -17,7 +15,6 @@ pub mod Limits
 pub mod Lines
 pub mod Lists
 pub mod Marks
-pub mod Measures
 pub mod Only
 pub mod Reasons
 pub mod References

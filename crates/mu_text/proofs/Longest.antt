@@ -12,7 +12,7 @@ use Rattle.mu_grammar.specs.declared.token.TokenSort.TheVariants.{Name, Meta, Pl
 use Rattle.mu_grammar.specs.Reading.{is_blank, starts_positive, is_symbol, is_meta, is_place, IsFront, IsFirstToken}
 use Rattle.mu_grammar.specs.Tokens.{starts_letter, run_length, dots, name_sort, is_arrow, is_pair, is_single, first_token}
 use Rattle.mu_text.proofs.Fronts.{prefix_len-yes, list_all-take_prefix, list_all-take_shorter, prefix_len-longest}
-use Rattle.mu_text.proofs.Runs.{letter_is_name_byte, are_segments-letter, letter_first, is_rest-take_run, run_length-longest, run_length-le, length-segments}
+use Rattle.mu_grammar.proofs.Runs.{letter_is_name_byte, are_segments-letter, letter_first, is_rest-take_run, run_length-longest, run_length-le, length-segments}
 
 -- how long a front that is spelled as a token of the sort can be
 abbrev pub limit : TokenSort → ℕ → List ℕ → ℕ

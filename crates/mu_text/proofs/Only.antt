@@ -11,7 +11,7 @@ use Rattle.mu_grammar.specs.declared.token.TokenSort.TheVariants.{Name, Meta, Pl
 use Rattle.mu_grammar.specs.declared.token.Token.{Token}
 use Rattle.mu_grammar.specs.Reading.{is_blank, starts_visible, starts_positive, is_symbol, is_place, is_spelled, IsFirstToken, AreTokensFrom, AreTokens}
 use Rattle.mu_grammar.specs.Tokens.{dots, name_sort, tokens}
-use Rattle.mu_text.proofs.Runs.{letter_first, length-segments}
+use Rattle.mu_grammar.proofs.Runs.{letter_first, length-segments}
 use Rattle.mu_text.proofs.Facts.{front_some}
 use Rattle.mu_text.proofs.Fronts.{prefix_len-yes}
 use Rattle.mu_text.proofs.Kept.{tokens_are}

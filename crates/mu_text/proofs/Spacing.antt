@@ -23,7 +23,7 @@ use Rattle.mu_grammar.specs.Spacing.{spaced}
 use Rattle.mu_text.proofs.Facts.{visible_some}
 use Rattle.mu_text.proofs.Kept.{tokens_are}
 use Rattle.mu_text.proofs.Only.{tokens_only}
-use Rattle.mu_text.proofs.Runs.{letter_is_name_byte}
+use Rattle.mu_grammar.proofs.Runs.{letter_is_name_byte}
 
 abbrev is_visible : ℕ → Bool
 is_visible byte = not (is_blank byte)

@@ -1,6 +1,6 @@
 use Rattle.std.proofs.Common.{◌≡◌, ℕ, List, ◌∷◌, refl, ap, sym, ◌∙◌, subst, arith}
 use Rattle.mu_grammar.specs.SimpleParts.{number_from}
-use Rattle.mu_text.proofs.Digits.{Room, Next, room_first, room_next}
+use Rattle.mu_grammar.proofs.Digits.{Room, Next, room_first, room_next}
 use Rattle.mu_text.proofs.parts.digits_value.Goals as goal
 
 next_of : (value digit : ℕ) (rest tail : List ℕ) → rest ≡ digit ∷ tail → Room value rest → Next value digit tail

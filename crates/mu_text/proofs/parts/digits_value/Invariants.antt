@@ -1,6 +1,6 @@
 use Rattle.std.proofs.Common.{◌≡◌, length}
 use Rattle.mu_grammar.specs.SimpleParts.{number_from}
-use Rattle.mu_text.proofs.Digits.{Room}
+use Rattle.mu_grammar.proofs.Digits.{Room}
 use Rattle.mu_text.proofs.parts.digits_value.Given as goal
 
 abbrev pub invariant-loop-digit : goal.invariant-loop-digit

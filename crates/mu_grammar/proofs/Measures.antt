@@ -12,22 +12,22 @@ use Rattle.mu_grammar.specs.declared.symbol.Mark.TheVariants.{Not}
 use Rattle.mu_grammar.specs.Ops.{constant_of}
 use Rattle.mu_grammar.specs.Writings.{Writing, Writings, leaf, apply, bind, paren, neg, bin, one, more, made, tree_of, trees_of, nodes, nodes_of, deep, deep_of}
 
-size-app : (name : List ℕ) (ts : List Tree) → size (tree.App name ts) ≡ sum (map size ts) + 1
+pub size-app : (name : List ℕ) (ts : List Tree) → size (tree.App name ts) ≡ sum (map size ts) + 1
 size-app name ts = ap size (sym (tree.rolls-App name ts)) ∙ fold-roll-Tree ℕ size_step (App name ts)
 
-size-meta : (name : List ℕ) (ts : List Tree) → size (tree.Meta name ts) ≡ sum (map size ts) + 1
+pub size-meta : (name : List ℕ) (ts : List Tree) → size (tree.Meta name ts) ≡ sum (map size ts) + 1
 size-meta name ts = ap size (sym (tree.rolls-Meta name ts)) ∙ fold-roll-Tree ℕ size_step (Meta name ts)
 
-depth-app : (name : List ℕ) (ts : List Tree) → depth (tree.App name ts) ≡ deepest (map depth ts) + 1
+pub depth-app : (name : List ℕ) (ts : List Tree) → depth (tree.App name ts) ≡ deepest (map depth ts) + 1
 depth-app name ts = ap depth (sym (tree.rolls-App name ts)) ∙ fold-roll-Tree ℕ depth_step (App name ts)
 
-depth-meta : (name : List ℕ) (ts : List Tree) → depth (tree.Meta name ts) ≡ deepest (map depth ts) + 1
+pub depth-meta : (name : List ℕ) (ts : List Tree) → depth (tree.Meta name ts) ≡ deepest (map depth ts) + 1
 depth-meta name ts = ap depth (sym (tree.rolls-Meta name ts)) ∙ fold-roll-Tree ℕ depth_step (Meta name ts)
 
-size-bind : (name v : List ℕ) (d b : Tree) → size (tree.Bind name v d b) ≡ size d + size b + 1
+pub size-bind : (name v : List ℕ) (d b : Tree) → size (tree.Bind name v d b) ≡ size d + size b + 1
 size-bind name v d b = ap size (sym (tree.rolls-Bind name v d b)) ∙ fold-roll-Tree ℕ size_step (Bind name v d b)
 
-depth-bind : (name v : List ℕ) (d b : Tree) → depth (tree.Bind name v d b) ≡ max (depth d) (depth b) + 1
+pub depth-bind : (name v : List ℕ) (d b : Tree) → depth (tree.Bind name v d b) ≡ max (depth d) (depth b) + 1
 depth-bind name v d b = ap depth (sym (tree.rolls-Bind name v d b)) ∙ fold-roll-Tree ℕ depth_step (Bind name v d b)
 
 size-made : (head : Word) (name : List ℕ) (ts : List Tree) → size (made head name ts) ≡ sum (map size ts) + 1
@@ -55,7 +55,7 @@ max_from : (a : ℕ) (ds : List ℕ) → fold max a ds ≡ max a (deepest ds)
 max_from a [] = grind arith
 max_from a (d ∷ ds) = let i = max_from (max a d) ds in let j = max_from (max 0 d) ds in grind arith
 
-deepest-more : (d : ℕ) (ds : List ℕ) → deepest (d ∷ ds) ≡ max d (deepest ds)
+pub deepest-more : (d : ℕ) (ds : List ℕ) → deepest (d ∷ ds) ≡ max d (deepest ds)
 deepest-more d ds = let i = max_from (max 0 d) ds in grind arith
 
 mutual
