@@ -2,6 +2,7 @@ pub mod Again
 pub mod Canon
 pub mod ClaimsBack
 pub mod Lines
+pub mod NamesBack
 pub mod Scan
 pub mod TreeInduction
 pub mod TreesBack
