@@ -3,6 +3,7 @@ pub mod Canon
 pub mod ClaimsBack
 pub mod Lines
 pub mod NamesBack
+pub mod ReasonsBack
 pub mod Scan
 pub mod TreeInduction
 pub mod TreesBack

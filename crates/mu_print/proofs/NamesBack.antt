@@ -73,7 +73,7 @@ var_is_name (word _ name) text e = cc
 var_is_name (mark m) text e = cc
 
 -- the bytes of a name are its text
-abbrev itself : {A : Type 0} → A → A
+abbrev pub itself : {A : Type 0} → A → A
 itself x = x
 
 module _ (f : Lexeme → Option (List ℕ)) (is_name : (T : Lexeme) (text : List ℕ) → f T ≡ Some text → name_of T ≡ Some text) where
@@ -151,7 +151,7 @@ no_trees_in (x ∷ xs) = no_trees_in xs
 pub reprints_references : Reprints SomeReferences (in_each no_trees) (map itself) (λ ys. between (codes ", ") (map reference_text ys))
 reprints_references = reprints_separated IsReference no_trees itself reference_text reprints_reference Comma (codes ", ") (λ r. (refl, refl)) comma_run tt
 
-reprints_vars : Reprints SomeVars (in_each no_trees) (map itself) (λ ys. between (codes ", ") (map itself ys))
+pub reprints_vars : Reprints SomeVars (in_each no_trees) (map itself) (λ ys. between (codes ", ") (map itself ys))
 reprints_vars = reprints_separated VarName no_trees itself itself reprints_var Comma (codes ", ") (λ r. (refl, refl)) comma_run tt
 
 pub map_itself : {A : Type 0} (xs : List A) → map itself xs ≡ xs
