@@ -153,3 +153,57 @@ module _ {A B : Type 0} (sign : Mark) (G : List Lexeme → A → Type 0) (trees 
         limits = p.limits;
         means = p.means;
       }
+
+abbrev from_text : List Ref → List ℕ
+from_text refs = surrounded (codes " from ") (codes ", ") [] (map reference_text refs)
+
+from_stops : (refs : List Ref) → KeepsStop (from_text refs)
+from_stops = led_stops Comma IsReference no_trees itself reference_text (codes ", ") reprints_references (codes "from") (codes " from ") (record { spelled = refl; short = refl }) from_run (λ r. (refl, refl))
+
+reprints_from : Reprints (Led (codes "from") SomeReferences) (in_each no_trees) (map itself) from_text
+reprints_from = reprints_led Comma IsReference no_trees itself reference_text (codes ", ") reprints_references (codes "from") (codes " from ") (record { spelled = refl; short = refl }) from_run (λ r. (refl, refl))
+
+abbrev with_text : List Given → List ℕ
+with_text inst = surrounded (codes " with ") (codes "; ") [] (map abstraction_text inst)
+
+with_stops : (inst : List Given) → KeepsStop (with_text inst)
+with_stops =
+    led_stops Semicolon IsAbstraction trees_in_abstraction given_of abstraction_text (codes "; ") reprints_abstractions (codes "with") (codes " with ") (record { spelled = refl; short = refl }) with_run (λ r. (refl, refl))
+
+reprints_with : Reprints (Led (codes "with") SomeAbstractions) (in_each trees_in_abstraction) (map given_of) with_text
+reprints_with =
+    reprints_led Semicolon IsAbstraction trees_in_abstraction given_of abstraction_text (codes "; ") reprints_abstractions (codes "with") (codes " with ") (record { spelled = refl; short = refl }) with_run (λ r. (refl, refl))
+
+reprints_reason : Reprints IsReason trees_in_reason why_of reason_text
+unfolding reason_text
+reprints_reason ts (by_rule name refs inst) sound within g none =
+    let s1 = all_parts SoundLexeme g.0 (g.1 ++ (g.2 ++ g.3)) (subst SoundLexemes g.4 sound) in
+    let w1 = all_parts WithinToken g.0 (g.1 ++ (g.2 ++ g.3)) (subst WithinTokens g.4 within) in
+    let s2 = all_parts SoundLexeme g.1 (g.2 ++ g.3) s1.1 in
+    let w2 = all_parts WithinToken g.1 (g.2 ++ g.3) w1.1 in
+    let s3 = all_parts SoundLexeme g.2 g.3 s2.1 in
+    let w3 = all_parts WithinToken g.2 g.3 w2.1 in
+    let n = reprints_name g.1 name s2.0 w2.0 g.6 refl in
+    let f = reprints_from g.2 refs s3.0 w3.0 g.7 (no_trees_in refs) in
+    let w = reprints_with g.3 inst s3.1 w3.1 g.8 none in
+    let from_lexes : Lexes (from_text refs) f.spelled = subst (λ (l : List Ref). Lexes (from_text l) f.spelled) (map_itself refs) f.lexes in
+    let inst_text : List ℕ = with_text (map given_of inst) in
+    let rest : List Lexeme = f.spelled ++ w.spelled in
+    record {
+      value = by_rule n.value f.value w.value;
+      spelled = word Plain (codes "rule") ∷ (n.spelled ++ rest);
+      lexes = lexes-behind (codes "rule ") (name ++ (from_text refs ++ inst_text)) (word Plain (codes "rule") ∷ []) (n.spelled ++ rest) rule_run
+          (lexes-together name (from_text refs ++ inst_text) n.spelled rest n.lexes (keeps_stop-together (from_text refs) inst_text (from_stops refs) (with_stops (map given_of inst)))
+          (lexes-together (from_text refs) inst_text f.spelled w.spelled from_lexes (with_stops (map given_of inst)) w.lexes));
+      spells = (word Plain (codes "rule") ∷ [], n.spelled, f.spelled, w.spelled, refl, (word Plain (codes "rule"), refl, refl), n.spells, f.spells, w.spells);
+      right = (tt, all_together RightLexeme n.spelled rest n.right (all_together RightLexeme f.spelled w.spelled f.right w.right));
+      within = (record { spelled = refl; short = refl }, all_together WithinToken n.spelled rest n.within (all_together WithinToken f.spelled w.spelled f.within w.within));
+      limits = w.limits;
+      means = ap (λ m. why.Rule m None f.value (map given_of w.value)) n.means
+          ∙ (ap (λ rs. why.Rule name None rs (map given_of w.value)) (sym (map_itself f.value) ∙ (f.means ∙ map_itself refs)) ∙ ap (why.Rule name None refs) w.means);
+    }
+
+-- each reason that some text reads as is what its canonical text reads as
+pub reasons_read_back : ReasonsReadBack
+unfolding ReasonsReadBack
+reasons_read_back = reads_back IsReason trees_in_reason why_of reason_text reprints_reason
