@@ -2,7 +2,9 @@ pub mod Again
 pub mod Canon
 pub mod ClaimsBack
 pub mod Lines
+pub mod NamesBack
 pub mod Parentheses
+pub mod ReasonsBack
 pub mod Scan
 pub mod TreeInduction
 pub mod TreesBack
