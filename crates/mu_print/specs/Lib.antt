@@ -1,3 +1,4 @@
 pub mod Canonical
 pub mod Laws
+pub mod Operands
 pub mod Texts

@@ -2,3 +2,6 @@
 #![tactic(auto)]
 
 mod pieces;
+mod trees;
+
+pub use trees::tree;
