@@ -126,11 +126,13 @@ unfolding tree_text
 text-Meta name ts = ap text_of (canonical-Meta name ts) ∙ text-headed head.Meta name ts
 
 pub text-Bind : (binder var : List ℕ) (dom body : Tree)
-    → tree_text (tree.Bind binder var dom body) ≡ binder ++ (codes "{" ++ (var ++ (codes ":" ++ (tree_text dom ++ (codes ". " ++ (tree_text body ++ codes "}"))))))
+    → tree_text (tree.Bind binder var dom body) ≡ (binder ++ (codes "{" ++ (var ++ codes ":"))) ++ (tree_text dom ++ (codes ". " ++ (tree_text body ++ codes "}")))
 unfolding tree_text
 text-Bind binder var dom body =
+    let rest : List ℕ = text_of (canonical dom) ++ (codes ". " ++ (text_of (canonical body) ++ codes "}")) in
     ap text_of (canonical-Bind binder var dom body)
-    ∙ ap (λ l. l ++ (codes "{" ++ (var ++ (codes ":" ++ (text_of (canonical dom) ++ (codes ". " ++ (text_of (canonical body) ++ codes "}"))))))) (name_text binder)
+    ∙ (ap (λ l. l ++ (codes "{" ++ (var ++ (codes ":" ++ rest)))) (name_text binder)
+    ∙ sym (append_assoc binder (codes "{" ++ (var ++ codes ":")) rest ∙ ap (λ l. binder ++ (codes "{" ++ l)) (append_assoc var (codes ":") rest)))
 
 pub operand-bare : (least : ℕ) (t : Tree) → least ≤ level_of t → operand_text least t ≡ tree_text t
 unfolding operand_text tree_text level_of

@@ -34,16 +34,24 @@ pub fn tree(out: &mut Vec<u8>, tree: &Tree) -> Result<(), AllocError>
             dom,
             body,
         } => {
-            add(out, binder.bytes())?;
-            add(out, b"{")?;
-            add(out, var.bytes())?;
-            add(out, b":")?;
+            binder_head(out, binder.bytes(), var.bytes())?;
             self::tree(out, dom.get())?;
             add(out, b". ")?;
             self::tree(out, body.get())?;
             add(out, b"}")
         }
     }
+}
+
+/// Adds what stands before the domain of a binder.
+fn binder_head(out: &mut Vec<u8>, binder: &[u8], var: &[u8]) -> Result<(), AllocError>
+    ensures { OnOk result (out.new.items ≡ out.old.items
+        ++ (binder.now ++ (codes "{" ++ (var.now ++ codes ":")))) }
+{
+    add(out, binder)?;
+    add(out, b"{")?;
+    add(out, var)?;
+    add(out, b":")
 }
 
 /// Adds an application: `not` or an operator with its operands, or a name with its arguments in brackets.
