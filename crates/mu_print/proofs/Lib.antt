@@ -1,3 +1,4 @@
+<<<<<<< HEAD
 pub mod Again
 pub mod Canon
 pub mod ClaimsBack
@@ -9,3 +10,6 @@ pub mod Scan
 pub mod TreeInduction
 pub mod TreesBack
 pub mod Words
+=======
+pub mod PrintingTrees
+>>>>>>> a7a951ca6c16780b724224560208ff68f3074c35

@@ -1,4 +1,5 @@
 pub mod Canonical
 pub mod Laws
+pub mod Operands
 pub mod Sound
 pub mod Texts

@@ -1,0 +1,48 @@
+ghost use Rattle.std.specs.Prelude.{◌≡◌, IfOk};
+ghost use Rattle.mu_print.specs.Canonical.{tree_text};
+ghost use Rattle.mu_print.specs.Texts.{claim_text, reason_text};
+
+use crate::claims::claim;
+use crate::reasons::reason;
+use crate::trees::tree;
+use mu_tree::{Bytes, Claim, NoMemory, Tree, Why};
+use std::alloc::Global;
+
+/// The canonical text of a tree.
+///
+/// # Errors
+///
+/// `NoMemory`.
+pub fn print_tree(alloc: Global, printed: &Tree) -> Result<Bytes, NoMemory>
+    ensures value { IfOk result (λ text. text ≡ tree_text printed.now) }
+{
+    let mut text = Vec::new(alloc);
+    tree(&mut text, printed)?;
+    Ok(Bytes::from_vec(text))
+}
+
+/// The canonical text of a claim.
+///
+/// # Errors
+///
+/// `NoMemory`.
+pub fn print_claim(alloc: Global, printed: &Claim) -> Result<Bytes, NoMemory>
+    ensures value { IfOk result (λ text. text ≡ claim_text printed.now) }
+{
+    let mut text = Vec::new(alloc);
+    claim(&mut text, printed)?;
+    Ok(Bytes::from_vec(text))
+}
+
+/// The canonical text of what a line holds by.
+///
+/// # Errors
+///
+/// `NoMemory`.
+pub fn print_why(alloc: Global, why: &Why) -> Result<Bytes, NoMemory>
+    ensures value { IfOk result (λ text. text ≡ reason_text why.now) }
+{
+    let mut text = Vec::new(alloc);
+    reason(&mut text, why)?;
+    Ok(Bytes::from_vec(text))
+}
