@@ -125,6 +125,14 @@ fn read_status(alloc: Global, reader: &mut Reader) -> Result<Command, PartFault>
     Ok(Command::Status { rule })
 }
 
+#[tactic(auto, unfolding(crate::specs::Grammar::read_parts, mu_text::specs::Rows::read_row))]
+fn read_show_rule(alloc: Global, reader: &mut Reader) -> Result<Command, PartFault>
+    ensures { Gives (StandsForm form.ShowRule) (read_parts form.ShowRule reader.old) result reader.new }
+{
+    let rule = parts::name(alloc, reader)?;
+    Ok(Command::ShowRule { rule })
+}
+
 /// Reads a command, and raises the limits that its trees pass.
 ///
 /// # Errors
@@ -147,5 +155,6 @@ pub fn read_command(
         Form::Line => read_line(alloc, reader, excess),
         Form::Cite => read_cite(alloc, reader, excess),
         Form::Status => read_status(alloc, reader),
+        Form::ShowRule => read_show_rule(alloc, reader),
     }
 }
