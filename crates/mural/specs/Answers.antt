@@ -15,7 +15,7 @@ use Rattle.mu_flat.specs.Entries.{Entries}
 use Rattle.mu_status.specs.Statuses.{status_of, word_of}
 use Rattle.mu_status.specs.declared.statuses.RuleStatus.{RuleStatus}
 use Rattle.mu_command.specs.declared.command.Command.{Command}
-use Rattle.mu_command.specs.declared.command.Command.TheVariants.{Theory, Constant, Axiom, Rule, Status}
+use Rattle.mu_command.specs.declared.command.Command.TheVariants.{Theory, Constant, Axiom, Rule, Status, ShowRule}
 use Rattle.mu_command.specs.declared.readings.Reading.{Reading}
 use Rattle.mu_command.specs.declared.readings.Reading.TheVariants as reading
 use Rattle.mu_command.specs.Readings.{reading_of}
@@ -57,6 +57,7 @@ outcome entries command (Some refused) = refuse entries refused
 -- the rule whose status a command asks for
 abbrev pub queried : Command → Option (List ℕ)
 queried (Status rule) = Some rule
+queried (ShowRule rule) = Some rule
 queried _ = None
 
 -- the outcome of a command, by the rule that it asks for: a query has a page, and a change is refused for the first reason that fits or carried out

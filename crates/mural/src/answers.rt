@@ -146,6 +146,7 @@ fn queried(command: &Command) -> Option<&Name>
 {
     match command {
         Command::Status { rule } => Some(rule),
+        Command::ShowRule { rule } => Some(rule),
         _ => None,
     }
 }
