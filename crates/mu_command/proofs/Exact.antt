@@ -3,13 +3,12 @@ use Rattle.std.proofs.Common.{◌≡◌, ℕ, Bool, List, [], ◌∷◌, ◌++�
 use Rattle.std.specs.Prelude.{codes}
 use Rattle.mu_grammar.specs.declared.symbol.Mark.{Mark}
 use Rattle.mu_grammar.specs.declared.symbol.Mark.TheVariants.{Colon}
-use Rattle.mu_grammar.specs.Lexemes.{Lexeme, word, mark}
-use Rattle.mu_grammar.specs.declared.symbol.Word.TheVariants.{Plain}
+use Rattle.mu_grammar.specs.Lexemes.{Lexeme, mark}
 use Rattle.mu_grammar.specs.Parts.{Nothing, End, given_back, Then, chain}
 use Rattle.mu_grammar.specs.Rows.{Values, SpellsRow}
 use Rattle.mu_grammar.specs.SimpleParts.{is_word, AnyName, GivenWord, read_word, read_name}
 use Rattle.mu_grammar.specs.Groups.{Optional}
-use Rattle.mu_text.proofs.Exact.{Exact, Exact-same, Exact-chain, Exact-pure, Exact-token}
+use Rattle.mu_text.proofs.Exact.{Exact, Exact-same, Exact-chain, Exact-pure}
 use Rattle.mu_text.proofs.Simple.{Any, Exact-mark, Exact-name, Exact-plain_name, Exact-word, is_own_word}
 use Rattle.mu_text.proofs.Choice.{Passes, Fails}
 use Rattle.mu_text.proofs.Complete.{Follows}
@@ -20,14 +19,19 @@ use Rattle.mu_text.proofs.Groups.{Exact-optional}
 use Rattle.mu_text.proofs.Declarations.{Exact-declaration}
 use Rattle.mu_text.proofs.Rows as rows
 use Rattle.mu_command.specs.declared.forms.Form.{Form}
-use Rattle.mu_command.specs.declared.forms.Form.TheVariants.{Theory, Constant, Axiom, Rule, Proof, Line, Cite, Status}
-use Rattle.mu_command.specs.Forms.{form_of, FormWord, read_form}
+use Rattle.mu_command.specs.declared.forms.Form.TheVariants.{Theory, Constant, Axiom, Rule, Proof, Line, Cite, Status, ShowRule}
+use Rattle.mu_command.specs.Words.{read_words}
+use Rattle.mu_command.specs.Forms.{named, is_front, FormWords, read_form}
+use Rattle.mu_command.proofs.Words.{SomeWords, Exact-words}
+use Rattle.mu_command.proofs.FormTable.{begins_at_form, has_form, form_ends, to_form_words, from_form_words}
 use Rattle.mu_command.specs.Parts.{Part, name, plain, given, sign, declaration, before, tree, claim, reason, Value, IsBefore, SpellsPart, read_before, read_part}
 use Rattle.mu_command.specs.Grammar.{row, Spelled, Written, Spells, read_parts, read_command}
 
-pub Exact-form : Exact read_form FormWord Any
+pub Exact-form : Exact read_form FormWords Any
 unfolding read_form
-Exact-form = Exact-token form_of (word Plain (codes "theory")) Theory refl Any
+Exact-form =
+    Exact-same (read_words named is_front []) (SomeWords named []) FormWords Any to_form_words from_form_words
+    (Exact-words named is_front begins_at_form has_form form_ends [] (codes "theory", Theory, refl))
 
 -- whether the token is the word `before`
 abbrev is_before_word : Lexeme → Bool
@@ -99,6 +103,7 @@ linked Line = (
 )
 linked Cite = (λ ts v g. tt, (λ ts v g. tt, (λ ts v g. tt, (λ ts v g. tt, (none_follows NoReason (((tt, tt), tt), ((tt, tt), tt)), tt)))))
 linked Status = (λ ts v g. tt, tt)
+linked ShowRule = (λ ts v g. tt, tt)
 
 abbrev pub SpellsParts : (form : Form) → List Lexeme → Spelled form → Type 0
 SpellsParts form ts v = SpellsRow Value SpellsPart (row form) ts v
@@ -117,17 +122,17 @@ exact_behind form =
     both_empty : (a b : List Lexeme) → a ≡ [] → b ≡ [] → a ++ b ≡ []
     both_empty a b e i = rw (e, i) refl
 
-to_written : (ts : List Lexeme) (w : Written) → Then FormWord Behind ts w → Spells ts w
+to_written : (ts : List Lexeme) (w : Written) → Then FormWords Behind ts w → Spells ts w
 to_written ts w g =
     let rest = g.5 in
     let same : g.2 ≡ rest.1 = rest.3 ∙ (ap (λ l. rest.1 ++ l) rest.5.0 ∙ append-nil rest.1) in
     subst (Spells ts) (sym rest.5.1) (g.1, g.2, g.3, g.4, subst (λ (l : List Lexeme). SpellsParts g.0 l rest.0) (sym same) rest.4)
 
-from_written : (ts : List Lexeme) (w : Written) → Spells ts w → Then FormWord Behind ts w
+from_written : (ts : List Lexeme) (w : Written) → Spells ts w → Then FormWords Behind ts w
 from_written ts w g = (w.0, g.0, g.1, g.2, g.3, (w.1, g.1, [], sym (append-nil g.1), g.4, (refl, refl)))
 
 pub Exact-command : Exact read_command Spells End
 unfolding read_command
 Exact-command =
-    Exact-same read_command (Then FormWord Behind) Spells End to_written from_written
-    (Exact-chain read_form (λ form. chain (read_parts form) (λ v. given_back (form, v))) FormWord Behind Any End Exact-form exact_behind (λ form b w rest g e. tt))
+    Exact-same read_command (Then FormWords Behind) Spells End to_written from_written
+    (Exact-chain read_form (λ form. chain (read_parts form) (λ v. given_back (form, v))) FormWords Behind Any End Exact-form exact_behind (λ form b w rest g e. tt))

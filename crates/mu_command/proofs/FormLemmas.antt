@@ -1,28 +1,29 @@
--- The word of a form, and the parts that follow it.
+-- The words of a form, and the parts that follow them.
 use Rattle.std.proofs.Common.{◌≡◌, ◌∙◌, ap, sym, refl}
-use Rattle.std.specs.Prelude.{List, [], ◌∷◌, Some, Result, Ok, Err, option_and_then}
-use Rattle.mu_tables.specs.Words.{number_of}
+use Rattle.std.specs.Prelude.{ℕ, List, [], ◌∷◌, ◌++◌, Some, Result, Ok, Err, true, false, if◌then◌else◌, option_and_then}
+use Rattle.mu_tables.specs.Words.{lengthened, number_of, some_begins}
 use Rattle.mu_tables.specs.Tables.{the_forms}
 use Rattle.mu_grammar.specs.declared.excess.Excess.{Excess}
 use Rattle.mu_grammar.specs.declared.fault.PartFault.{PartFault}
 use Rattle.mu_grammar.specs.declared.fault.PartFault.TheVariants.{Mismatch, NoMemory}
 use Rattle.mu_grammar.specs.declared.symbol.Sort.TheVariants as sort
 use Rattle.mu_grammar.specs.declared.symbol.Word.TheVariants.{Plain, Dotted, True, Meta, Place}
-use Rattle.mu_grammar.specs.Lexemes.{Lexeme, word, mark, first_sort, first_bytes}
-use Rattle.mu_grammar.specs.Parts.{found, ◌>>=◌, Read, Gives, Same, first_as}
+use Rattle.mu_grammar.specs.Lexemes.{Lexeme, word, mark, first_sort, first_bytes, after_first}
+use Rattle.mu_grammar.specs.Parts.{found, ◌>>=◌, Read, Gives, Same, first_as, starts, taken, token}
 use Rattle.mu_grammar.specs.Rows.{Values, read_row, StandsRow}
 use Rattle.mu_grammar.specs.Excesses.{Raising, raised}
 use Rattle.mu_text.proofs.Excesses.{raised-append}
 use Rattle.mu_command.specs.declared.command.Command.{Command}
 use Rattle.mu_command.specs.declared.forms.Form.{Form}
-use Rattle.mu_command.specs.Forms.{form_of, numbered, read_form}
+use Rattle.mu_command.specs.Forms.{is_front, named, numbered, read_form}
+use Rattle.mu_command.specs.Words.{ended_by, goes_on, read_words}
 use Rattle.mu_command.specs.Parts.{Part, Value, Meant, read_part, trees_in, StandsPart}
 use Rattle.mu_command.specs.Grammar.{GivesCommand, GivesForm, StandsCommand, StandsForm, make, read_command, read_parts, row, trees_of}
 
--- a command is read by its word and then by the parts of its form
-after_word : (form : Form) (ts mid : List Lexeme) → Read Same (read_form ts) form mid → read_command ts ≡ (read_parts form mid >>= (λ v rest. found (form, v) rest))
+-- a command is read by its words and then by the parts of its form
+after_words : (form : Form) (ts mid : List Lexeme) → Read Same (read_form ts) form mid → read_command ts ≡ (read_parts form mid >>= (λ v rest. found (form, v) rest))
 unfolding read_command
-after_word form ts mid head =
+after_words form ts mid head =
     ap (λ o. o >>= (λ f behind. read_parts f behind >>= (λ v rest. found (f, v) rest))) (head.is ∙ ap (λ f. found f mid) (sym head.stands))
 
 -- what the parts of a form give is what the command gives
@@ -30,10 +31,10 @@ pub form_then : (form : Form) (start now : Excess) (ts mid rest : List Lexeme) (
     → GivesCommand start now ts answer rest
 form_then form start now ts mid rest (Ok c) head parts = record {
   value = (form, parts.value);
-  is = after_word form ts mid head ∙ ap (λ o. o >>= (λ v left. found (form, v) left)) parts.is;
+  is = after_words form ts mid head ∙ ap (λ o. o >>= (λ v left. found (form, v) left)) parts.is;
   stands = parts.stands;
 }
-form_then form start now ts mid rest (Err Mismatch) head parts = after_word form ts mid head ∙ ap (λ o. o >>= (λ v left. found (form, v) left)) parts
+form_then form start now ts mid rest (Err Mismatch) head parts = after_words form ts mid head ∙ ap (λ o. o >>= (λ v left. found (form, v) left)) parts
 form_then form start now ts mid rest (Err NoMemory) head parts = tt
 
 -- where no form is told, no command goes on
@@ -96,12 +97,32 @@ pub makes : (form : Form) {start now : Excess} {ts rest : List Lexeme} (k : Valu
 unfolding read_parts
 makes form k c row e = record { value = row.value; is = row.is; stands = ((k, row.stands, e), row.raises) }
 
--- the form whose word the first token is, where this is a plain word
-pub plain_form : (ts : List Lexeme) → first_sort ts ≡ Some (sort.Word Plain) → first_as form_of ts ≡ option_and_then numbered (number_of (first_bytes ts) the_forms)
-plain_form [] e = cc
-plain_form (word Plain text ∷ rest) e = refl
-plain_form (word Dotted text ∷ rest) e = cc
-plain_form (word True text ∷ rest) e = cc
-plain_form (word Meta text ∷ rest) e = cc
-plain_form (word Place text ∷ rest) e = cc
-plain_form (mark m ∷ rest) e = cc
+-- the form whose words the first token ends, where this is a plain word
+pub plain_ends : (front : List ℕ) (ts : List Lexeme) → first_sort ts ≡ Some (sort.Word Plain) → first_as (ended_by named front) ts ≡ option_and_then numbered (number_of (front ++ first_bytes ts) the_forms)
+plain_ends front [] e = cc
+plain_ends front (word Plain text ∷ rest) e = refl
+plain_ends front (word Dotted text ∷ rest) e = cc
+plain_ends front (word True text ∷ rest) e = cc
+plain_ends front (word Meta text ∷ rest) e = cc
+plain_ends front (word Place text ∷ rest) e = cc
+plain_ends front (mark m ∷ rest) e = cc
+
+-- whether some form goes on with the first token, where this is a plain word
+pub plain_goes_on : (front : List ℕ) (ts : List Lexeme) → first_sort ts ≡ Some (sort.Word Plain) → starts (goes_on is_front front) ts ≡ some_begins (lengthened front (first_bytes ts)) the_forms
+plain_goes_on front [] e = cc
+plain_goes_on front (word Plain text ∷ rest) e = refl
+plain_goes_on front (word Dotted text ∷ rest) e = cc
+plain_goes_on front (word True text ∷ rest) e = cc
+plain_goes_on front (word Meta text ∷ rest) e = cc
+plain_goes_on front (word Place text ∷ rest) e = cc
+plain_goes_on front (mark m ∷ rest) e = cc
+
+-- where some form goes on with the first token, the words of a form are read behind it
+pub words_go_on : (front : List ℕ) (ts : List Lexeme) → starts (goes_on is_front front) ts ≡ true → read_words named is_front front ts ≡ read_words named is_front (lengthened front (first_bytes ts)) (after_first ts)
+words_go_on front [] e = cc
+words_go_on front (T ∷ rest) e = ap (λ b. if b then read_words named is_front (lengthened front (first_bytes (T ∷ rest))) rest else taken (ended_by named front T) (T ∷ rest) rest) e
+
+-- where none does, the first token ends the words of a form
+pub words_end : (front : List ℕ) (ts : List Lexeme) → starts (goes_on is_front front) ts ≡ false → read_words named is_front front ts ≡ token (ended_by named front) ts
+words_end front [] e = refl
+words_end front (T ∷ rest) e = ap (λ b. if b then read_words named is_front (lengthened front (first_bytes (T ∷ rest))) rest else taken (ended_by named front T) (T ∷ rest) rest) e

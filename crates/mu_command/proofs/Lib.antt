@@ -1,6 +1,8 @@
 pub mod Exact
 pub mod FormLemmas
+pub mod FormTable
 pub mod Lines
 pub mod Meant
 pub mod Plain
 pub mod Spacing
+pub mod Words

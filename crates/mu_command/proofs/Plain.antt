@@ -24,7 +24,7 @@ use Rattle.mu_text.proofs.Facts.{IsTokenOf, tokens_hold}
 use Rattle.mu_text.proofs.Simple.{from_bytes}
 use Rattle.mu_command.specs.declared.command.Command.{Command}
 use Rattle.mu_command.specs.declared.forms.Form.{Form}
-use Rattle.mu_command.specs.declared.forms.Form.TheVariants.{Theory, Constant, Axiom, Rule, Proof, Line, Cite, Status}
+use Rattle.mu_command.specs.declared.forms.Form.TheVariants.{Theory, Constant, Axiom, Rule, Proof, Line, Cite, Status, ShowRule}
 use Rattle.mu_command.specs.declared.readings.Reading.TheVariants as reading
 use Rattle.mu_command.specs.Parts.{Part, name, plain, given, sign, declaration, before, tree, claim, reason, Value, SpellsPart}
 use Rattle.mu_command.specs.Grammar.{row, Spelled, command_of}
@@ -133,6 +133,7 @@ command_plain Proof v are = are.1.0
 command_plain Line v are = (are.1.0, are.1.1.0)
 command_plain Cite v are = (are.1.0, are.1.1.0)
 command_plain Status v are = tt
+command_plain ShowRule v are = tt
 
 says_plain : (line : List ℕ) (c : Command) → Says line (reading.Command c) → HasPlainNames c
 says_plain line c (w, spells, none, same) =

@@ -1,12 +1,14 @@
--- The forms of commands, and the word that each begins with.
-use Rattle.std.specs.Prelude.{ℕ, ◌==◌, List, [], ◌∷◌, Option, None, option_and_then, find}
-use Rattle.mu_tables.specs.Words.{number_of}
+-- The forms of commands, and the words that each begins with.
+use Rattle.std.specs.Prelude.{ℕ, ◌==◌, List, [], ◌∷◌, Bool, Option, Some, option_and_then, find, ◌≡◌, map}
+use Rattle.std.specs.List.{join_with_byte}
+use Rattle.mu_tables.specs.Words.{number_of, some_begins}
 use Rattle.mu_tables.specs.Tables.{the_forms}
 use Rattle.mu_grammar.specs.declared.symbol.Word.TheVariants.{Plain}
 use Rattle.mu_grammar.specs.Lexemes.{Lexeme, word}
-use Rattle.mu_grammar.specs.Parts.{Out, OneToken, token}
+use Rattle.mu_grammar.specs.Parts.{Out}
+use Rattle.mu_command.specs.Words.{read_words}
 use Rattle.mu_command.specs.declared.forms.Form.{Form}
-use Rattle.mu_command.specs.declared.forms.Form.TheVariants.{Theory, Constant, Axiom, Rule, Proof, Line, Cite, Status}
+use Rattle.mu_command.specs.declared.forms.Form.TheVariants.{Theory, Constant, Axiom, Rule, Proof, Line, Cite, Status, ShowRule}
 
 -- the number of the form in the table of words
 abbrev pub number : Form → ℕ
@@ -18,24 +20,28 @@ number Proof = 5
 number Line = 6
 number Cite = 7
 number Status = 8
+number ShowRule = 9
 
 -- all forms
 abbrev pub forms : List Form
-forms = Theory ∷ Constant ∷ Axiom ∷ Rule ∷ Proof ∷ Line ∷ Cite ∷ Status ∷ []
+forms = Theory ∷ Constant ∷ Axiom ∷ Rule ∷ Proof ∷ Line ∷ Cite ∷ Status ∷ ShowRule ∷ []
 
 -- the form of a number
 abbrev pub numbered : ℕ → Option Form
 numbered n = find (λ form. number form == n) forms
 
--- the form whose word the token is
-abbrev pub form_of : Lexeme → Option Form
-form_of (word Plain text) = option_and_then numbered (number_of text the_forms)
-form_of _ = None
+-- the form whose row in the table has the text
+abbrev pub named : List ℕ → Option Form
+named text = option_and_then numbered (number_of text the_forms)
 
--- the token is the word of the form
-abbrev pub FormWord : List Lexeme → Form → Type 0
-FormWord ts form = OneToken form_of ts form
+-- whether the text of some form begins with these bytes
+abbrev pub is_front : List ℕ → Bool
+is_front front = some_begins front the_forms
 
--- reads the word of a form
+-- the tokens are plain words, which with one blank between each two are the text of the form's row in the table
+abbrev pub FormWords : List Lexeme → Form → Type 0
+FormWords ts form = (texts : List (List ℕ)) × (ts ≡ map (word Plain) texts) × (number_of (join_with_byte 32 texts) the_forms ≡ Some (number form))
+
+-- reads the words of a form
 unfoldable pub read_form : List Lexeme → Out Form
-read_form ts = token form_of ts
+read_form ts = read_words named is_front [] ts

@@ -11,11 +11,11 @@ use Rattle.mu_grammar.specs.Excesses.{Raising}
 use Rattle.mu_command.specs.declared.command.Command.{Command}
 use Rattle.mu_command.specs.declared.command.Command.TheVariants as command
 use Rattle.mu_command.specs.declared.forms.Form.{Form}
-use Rattle.mu_command.specs.declared.forms.Form.TheVariants.{Theory, Constant, Axiom, Rule, Proof, Line, Cite, Status}
-use Rattle.mu_command.specs.Forms.{FormWord, read_form}
+use Rattle.mu_command.specs.declared.forms.Form.TheVariants.{Theory, Constant, Axiom, Rule, Proof, Line, Cite, Status, ShowRule}
+use Rattle.mu_command.specs.Forms.{FormWords, read_form}
 use Rattle.mu_command.specs.Parts.{Part, name, plain, given, sign, declaration, before, tree, claim, reason, Value, SpellsPart, read_part, Meant, meant_part, trees_in, StandsPart}
 
--- the parts that follow the word of a form
+-- the parts that follow the words of a form
 abbrev pub row : Form → List Part
 row Theory = plain ∷ []
 row Constant = plain ∷ declaration ∷ []
@@ -25,6 +25,7 @@ row Proof = name ∷ plain ∷ []
 row Line = name ∷ plain ∷ plain ∷ given (codes "in") ∷ name ∷ before ∷ sign Colon ∷ tree ∷ []
 row Cite = name ∷ plain ∷ plain ∷ sign Colon ∷ reason ∷ []
 row Status = name ∷ []
+row ShowRule = name ∷ []
 
 -- the command of a form, by what is meant by its parts
 abbrev pub make : (form : Form) → Values Meant (row form) → Command
@@ -36,6 +37,7 @@ make Proof v = command.Proof v.0 v.1.0
 make Line v = command.Line v.0 v.1.0 v.1.1.0 v.1.1.1.1.0 v.1.1.1.1.1.0 v.1.1.1.1.1.1.1.0
 make Cite v = command.Cite v.0 v.1.0 v.1.1.0 v.1.1.1.1.0
 make Status v = command.Status v.0
+make ShowRule v = command.ShowRule v.0
 
 -- the values of the parts of a form, as they are spelled
 abbrev pub Spelled : Form → Type 0
@@ -45,9 +47,9 @@ Spelled form = Values Value (row form)
 abbrev pub Written : Type 0
 Written = (form : Form) × Spelled form
 
--- the tokens are those of the written command: the word of its form, and each part behind the one before it
+-- the tokens are those of the written command: the words of its form, and each part behind the one before it
 abbrev pub Spells : List Lexeme → Written → Type 0
-Spells ts w = (a b : List Lexeme) × (ts ≡ a ++ b) × FormWord a w.0 × SpellsRow Value SpellsPart (row w.0) b w.1
+Spells ts w = (a b : List Lexeme) × (ts ≡ a ++ b) × FormWords a w.0 × SpellsRow Value SpellsPart (row w.0) b w.1
 
 -- what is meant by the values of some parts
 abbrev pub meant : (parts : List Part) → Values Value parts → Values Meant parts

@@ -3,3 +3,4 @@ pub mod Grammar
 pub mod Parts
 pub mod Plain
 pub mod Readings
+pub mod Words

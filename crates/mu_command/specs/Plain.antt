@@ -18,3 +18,4 @@ HasPlainNames (command.Proof rule proof) = IsPlain proof
 HasPlainNames (command.Line rule proof label block before tree) = IsPlain proof × IsPlain label
 HasPlainNames (command.Cite rule proof label why) = IsPlain proof × IsPlain label
 HasPlainNames (command.Status rule) = Unit {0}
+HasPlainNames (command.ShowRule rule) = Unit {0}

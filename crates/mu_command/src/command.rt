@@ -53,4 +53,8 @@ pub enum Command {
     Status {
         rule: Name,
     },
+    /// `show rule r`: a rule as it was stated.
+    ShowRule {
+        rule: Name,
+    },
 }

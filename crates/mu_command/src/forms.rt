@@ -1,6 +1,9 @@
-ghost use Rattle.std.specs.Prelude.{◌≡◌, find};
-ghost use Rattle.mu_grammar.specs.Parts.{Gives, Same, first_as};
-ghost use Rattle.mu_command.specs.Forms.{form_of, forms, number, numbered, read_form};
+ghost use Rattle.std.specs.Prelude.{◌≡◌, IfSome, find, is_some};
+ghost use Rattle.mu_tables.specs.Words.{lengthened};
+ghost use Rattle.mu_grammar.specs.Lexemes.{first_bytes};
+ghost use Rattle.mu_grammar.specs.Parts.{Gives, Same, first_as, starts};
+ghost use Rattle.mu_command.specs.Forms.{forms, is_front, named, number, numbered, read_form};
+ghost use Rattle.mu_command.specs.Words.{ended_by, goes_on};
 
 use mu_tables::forms;
 use mu_grammar::{PartFault, Sort, Word};
@@ -17,9 +20,10 @@ pub(crate) enum Form {
     Line,
     Cite,
     Status,
+    ShowRule,
 }
 
-const ALL: [Form; 8] = [
+const ALL: [Form; 9] = [
     Form::Theory,
     Form::Constant,
     Form::Axiom,
@@ -28,6 +32,7 @@ const ALL: [Form; 8] = [
     Form::Line,
     Form::Cite,
     Form::Status,
+    Form::ShowRule,
 ];
 
 /// The number of the form in the table of words.
@@ -43,6 +48,7 @@ fn number(form: Form) -> u8
         Form::Line => 6,
         Form::Cite => 7,
         Form::Status => 8,
+        Form::ShowRule => 9,
     }
 }
 
@@ -52,27 +58,44 @@ fn numbered(n: u8) -> Option<Form>
     ALL.iter().copied().find(|form| number(*form) == n)
 }
 
-/// The form whose word the first token is.
-#[tactic(auto, using(crate::proofs::FormLemmas::plain_form))]
-fn first_form(reader: &Reader) -> Option<Form>
-    ensures { result ≡ first_as form_of reader.now }
+/// The form whose words the first token ends, behind those before it.
+#[tactic(auto, using(crate::proofs::FormLemmas::plain_ends))]
+fn form_ended(front: &[u8], reader: &Reader) -> Option<Form>
+    ensures { result ≡ first_as (ended_by named front.now) reader.now }
 {
     match reader.peek() {
-        Some(Sort::Word(Word::Plain)) => forms().find(reader.bytes()).and_then(numbered),
+        Some(Sort::Word(Word::Plain)) => forms().find_behind(front, reader.bytes()).and_then(numbered),
         _ => None,
     }
 }
 
-/// Reads the word that says of which form a command is.
+/// The words before the first token, it, and a blank, where some form goes on so.
+#[tactic(auto, using(crate::proofs::FormLemmas::plain_goes_on))]
+fn longer_front(front: &[u8], reader: &Reader) -> Option<&'static [u8]>
+    ensures front { IfSome result (λ longer. longer.now ≡ lengthened front.now (first_bytes reader.now)) }
+    ensures is_some { is_some result ≡ starts (goes_on is_front front.now) reader.now }
+{
+    match reader.peek() {
+        Some(Sort::Word(Word::Plain)) => forms().lengthened(front, reader.bytes()),
+        _ => None,
+    }
+}
+
+/// Reads the words that say of which form a command is.
 ///
 /// # Errors
 ///
-/// `Mismatch` where the first token is no such word.
-#[tactic(auto, unfolding(crate::specs::Forms::read_form))]
+/// `Mismatch` at the first token with which the words of no form go on.
+#[tactic(auto, using(crate::proofs::FormLemmas::words_go_on, crate::proofs::FormLemmas::words_end), unfolding(crate::specs::Forms::read_form))]
 pub(crate) fn read_form(reader: &mut Reader) -> Result<Form, PartFault>
     ensures { Gives Same (read_form reader.old) result reader.new }
 {
-    match first_form(reader) {
+    let mut front: &'static [u8] = &[];
+    while let Some(longer) = longer_front(front, reader) {
+        front = longer;
+        reader.skip();
+    }
+    match form_ended(front, reader) {
         Some(form) => {
             reader.skip();
             Ok(form)

@@ -126,6 +126,14 @@ fn read_status(alloc: Global, reader: &mut Reader) -> Result<Command, PartFault>
     Ok(Command::Status { rule })
 }
 
+#[tactic(auto, unfolding(crate::specs::Grammar::read_parts, mu_grammar::specs::Rows::read_row))]
+fn read_show_rule(alloc: Global, reader: &mut Reader) -> Result<Command, PartFault>
+    ensures { Gives (StandsForm form.ShowRule) (read_parts form.ShowRule reader.old) result reader.new }
+{
+    let rule = parts::name(alloc, reader)?;
+    Ok(Command::ShowRule { rule })
+}
+
 /// Reads a command, and raises the limits that its trees pass.
 ///
 /// # Errors
@@ -148,5 +156,6 @@ pub fn read_command(
         Form::Line => read_line(alloc, reader, excess),
         Form::Cite => read_cite(alloc, reader, excess),
         Form::Status => read_status(alloc, reader),
+        Form::ShowRule => read_show_rule(alloc, reader),
     }
 }

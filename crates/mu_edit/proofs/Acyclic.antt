@@ -15,7 +15,7 @@ use Rattle.mu_flat.specs.Entries.{Entries}
 use Rattle.mu_flat.proofs.CircleLemmas.{told_acyclic}
 use Rattle.mu_flat.proofs.Citing.{empty_leads, line_leads}
 use Rattle.mu_command.specs.declared.command.Command.{Command}
-use Rattle.mu_command.specs.declared.command.Command.TheVariants.{Theory, Constant, Axiom, Rule, Proof, Line, Cite, Status}
+use Rattle.mu_command.specs.declared.command.Command.TheVariants.{Theory, Constant, Axiom, Rule, Proof, Line, Cite, Status, ShowRule}
 use Rattle.mu_edit.specs.Changes.{refusal, changed}
 
 no_circle : (first : Option (List ℕ)) → option_map Circle first ≡ None → None ≡ first
@@ -46,3 +46,4 @@ changed_acyclic e (Cite rule proof label why) acyclic free = go (proof_at e.proo
     go None free = absurd (cc)
     go (Some items) free = unrefused (with_reason_at e.proofs rule proof label (Some why)) label (is_line_label items label) free
 changed_acyclic e (Status rule) acyclic free = acyclic
+changed_acyclic e (ShowRule rule) acyclic free = acyclic

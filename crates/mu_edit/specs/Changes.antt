@@ -13,7 +13,7 @@ use Rattle.mu_flat.specs.ProofTables.{proof_at}
 use Rattle.mu_flat.specs.Edits.{line_refusal, with_line, with_reason, cite_refusal}
 use Rattle.mu_flat.specs.Entries.{Entries, IsPlain, with_theory, with_constant, with_rule, with_items}
 use Rattle.mu_command.specs.declared.command.Command.{Command}
-use Rattle.mu_command.specs.declared.command.Command.TheVariants.{Theory, Constant, Axiom, Rule, Proof, Line, Cite, Status}
+use Rattle.mu_command.specs.declared.command.Command.TheVariants.{Theory, Constant, Axiom, Rule, Proof, Line, Cite, Status, ShowRule}
 
 -- a name must be there
 abbrev pub unknown_unless : Bool → List ℕ → Option Refusal
@@ -37,6 +37,7 @@ refusal e (Proof rule proof) = taken_where (is_some (proof_at e.proofs rule proo
 refusal e (Line rule proof label block before tree) = line_refusal e rule proof block before label
 refusal e (Cite rule proof label why) = cite_refusal e rule proof label why
 refusal e (Status rule) = None
+refusal e (ShowRule rule) = None
 
 -- the store after a command that is not refused
 unfoldable pub changed : Entries → Command → Entries
@@ -48,6 +49,7 @@ changed e (Proof rule proof) = with_items e rule proof []
 changed e (Line rule proof label block before tree) = with_line e rule proof before (item.Line label tree None)
 changed e (Cite rule proof label why) = with_reason e rule proof label why
 changed e (Status rule) = e
+changed e (ShowRule rule) = e
 
 -- what a command would store may be stored: what it declares has a plain name that is not the base theory's
 abbrev pub IsStorable : Command → Type 0
@@ -59,6 +61,7 @@ IsStorable (Proof rule proof) = Unit {0}
 IsStorable (Line rule proof label block before tree) = Unit {0}
 IsStorable (Cite rule proof label why) = Unit {0}
 IsStorable (Status rule) = Unit {0}
+IsStorable (ShowRule rule) = Unit {0}
 
 -- what carrying out a command leads to: it is not refused and the store is changed, or it is refused by its first reason, or memory ran out; in these the store is as it was
 abbrev pub Applies : Entries → Entries → Command → Result (Unit {0}) EditFault → Type 0

@@ -45,6 +45,7 @@ pub fn apply(alloc: Global, store: &mut Store, command: Command) -> Result<(), E
             why,
         } => store.cite(alloc, &rule, &proof, &label, why),
         Command::Status { .. } => Ok(()),
+        Command::ShowRule { .. } => Ok(()),
     }
 }
 

@@ -6,7 +6,7 @@ use Rattle.mu_tables.specs.Operators.{Written}
 
 -- the words that each form begins with, and its number
 abbrev pub the_forms : List (List ℕ × ℕ)
-the_forms = (codes "axiom", 3) ∷ (codes "cite", 7) ∷ (codes "const", 2) ∷ (codes "line", 6) ∷ (codes "proof", 5) ∷ (codes "rule", 4) ∷ (codes "status", 8) ∷ (codes "theory", 1) ∷ []
+the_forms = (codes "axiom", 3) ∷ (codes "cite", 7) ∷ (codes "const", 2) ∷ (codes "line", 6) ∷ (codes "proof", 5) ∷ (codes "rule", 4) ∷ (codes "show rule", 9) ∷ (codes "status", 8) ∷ (codes "theory", 1) ∷ []
 
 -- the word of each refusal, and its code
 abbrev pub the_refusals : List (List ℕ × ℕ)

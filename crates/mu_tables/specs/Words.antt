@@ -1,6 +1,7 @@
 -- Texts with their numbers: how they are found, and their order.
-use Rattle.std.specs.Prelude.{ℕ, List, [], ◌∷◌, Option, Some, None, if◌then◌else◌, Bool, true, false, ◌&&◌, not, nat_lt, nat_eq, map}
-use Rattle.std.specs.List.{list_any}
+use Rattle.std.specs.Prelude.{◌≡◌, ◌≢◌, ℕ, List, [], ◌∷◌, Option, Some, None, if◌then◌else◌, Bool, true, false, ◌&&◌, not, nat_lt, ◌++◌, map}
+use Rattle.std.specs.Bool.{nat_eq}
+use Rattle.std.specs.List.{list_any, starts_with}
 use Rattle.std.specs.Str.{bytes_eq}
 use Rattle.std.specs.Borrow.{Bor}
 use Rattle.mu_tables.specs.declared.words.Row.{Row}
@@ -13,6 +14,20 @@ rows_of rows = map (λ row. (row.text.now, row.number)) rows
 abbrev pub number_of : List ℕ → List (List ℕ × ℕ) → Option ℕ
 number_of text [] = None
 number_of text (row ∷ rows) = if bytes_eq row.0 text then Some row.1 else number_of text rows
+
+-- whether some row's text begins with these bytes
+abbrev pub some_begins : List ℕ → List (List ℕ × ℕ) → Bool
+some_begins front [] = false
+some_begins front (row ∷ rows) = if starts_with nat_eq row.0 front then true else some_begins front rows
+
+-- the front, the word behind it, and a blank
+abbrev pub lengthened : List ℕ → List ℕ → List ℕ
+lengthened front text = (front ++ text) ++ 32 ∷ []
+
+-- what is left of the text behind a front of it; none where it doesn't begin so
+abbrev pub IsBehind : List ℕ → List ℕ → Option (Bor (List ℕ)) → Type 0
+IsBehind text front None = (rest : List ℕ) → text ≢ front ++ rest
+IsBehind text front (Some rest) = text ≡ front ++ rest.now
 
 -- the text of the first row with the number
 abbrev pub word_of : ℕ → List Row → Option (Bor (List ℕ))

@@ -21,7 +21,7 @@ macro_rules! operators {
 }
 
 /// The forms of commands: the words that a command of the form begins with, with one blank between each two.
-pub fn forms() -> Words<8>
+pub fn forms() -> Words<9>
     ensures { rows_of result.rows.now ≡ the_forms }
 {
     Words {
@@ -32,6 +32,7 @@ pub fn forms() -> Words<8>
             "line" 6;
             "proof" 5;
             "rule" 4;
+            "show rule" 9;
             "status" 8;
             "theory" 1;
         },

@@ -4,13 +4,14 @@ use Rattle.mu_tree.specs.declared.claim.Claim.{Claim}
 use Rattle.mu_tree.specs.declared.claim.Kind.{Kind}
 use Rattle.mu_tree.specs.declared.claim.Shape.{Shape}
 use Rattle.mu_command.specs.declared.command.Command.{Command}
-use Rattle.mu_command.specs.declared.command.Command.TheVariants.{Theory, Constant, Axiom, Rule, Status}
+use Rattle.mu_command.specs.declared.command.Command.TheVariants.{Theory, Constant, Axiom, Rule, Status, ShowRule}
 use Rattle.mural.specs.Answers.{queried, touches_base}
 
 -- no other command is a query
-pub asks_nothing : (c : Command) → ((rule : List ℕ) → c ≡ Status rule → ⊥) → None ≡ queried c
-asks_nothing (Status rule) other = absurd (other rule refl)
-asks_nothing _ other = refl
+pub asks_nothing : (c : Command) → ((rule : List ℕ) → c ≡ Status rule → ⊥) → ((rule : List ℕ) → c ≡ ShowRule rule → ⊥) → None ≡ queried c
+asks_nothing (Status rule) status shown = absurd (status rule refl)
+asks_nothing (ShowRule rule) status shown = absurd (shown rule refl)
+asks_nothing _ status shown = refl
 
 -- no other command declares something
 pub declares_nothing : (c : Command) → ((unit : List ℕ) → c ≡ Theory unit → ⊥) → ((unit name : List ℕ) (shape : Shape) (result : Kind) → c ≡ Constant unit name shape result → ⊥)

@@ -3,7 +3,7 @@ use Rattle.std.proofs.Common.{◌≡◌, Bool, true, false}
 use Rattle.std.specs.Prelude.{◌||◌}
 use Rattle.mu_command.specs.Plain.{HasPlainNames}
 use Rattle.mu_command.specs.declared.command.Command.{Command}
-use Rattle.mu_command.specs.declared.command.Command.TheVariants.{Theory, Constant, Axiom, Rule, Proof, Line, Cite, Status}
+use Rattle.mu_command.specs.declared.command.Command.TheVariants.{Theory, Constant, Axiom, Rule, Proof, Line, Cite, Status, ShowRule}
 use Rattle.mu_edit.specs.Changes.{IsStorable}
 use Rattle.mural.specs.Answers.{touches_base}
 
@@ -20,3 +20,4 @@ storable (Proof rule proof) plain other = tt
 storable (Line rule proof label block before tree) plain other = tt
 storable (Cite rule proof label why) plain other = tt
 storable (Status rule) plain other = tt
+storable (ShowRule rule) plain other = tt

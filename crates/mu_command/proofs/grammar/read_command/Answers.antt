@@ -1,5 +1,5 @@
 use Rattle.std.proofs.Common.{refl}
-use Rattle.mu_command.specs.declared.forms.Form.TheVariants.{Theory, Constant, Axiom, Rule, Proof, Line, Cite, Status}
+use Rattle.mu_command.specs.declared.forms.Form.TheVariants.{Theory, Constant, Axiom, Rule, Proof, Line, Cite, Status, ShowRule}
 use Rattle.mu_command.proofs.FormLemmas.{form_then, form_alone}
 use Rattle.mu_command.proofs.grammar.read_command.Goals as goal
 
@@ -26,3 +26,6 @@ returns-in-Cite c = form_then Cite _ _ _ _ _ _ (rw c.in-Cite.is at c.in_ok-read_
 
 pub returns-in-Status : goal.returns-in-Status
 returns-in-Status c = form_alone Status (λ v. refl) _ _ _ _ _ (rw c.in-Status.is at c.in_ok-read_form.ensures) c.read_status.ensures
+
+pub returns-in-ShowRule : goal.returns-in-ShowRule
+returns-in-ShowRule c = form_alone ShowRule (λ v. refl) _ _ _ _ _ (rw c.in-ShowRule.is at c.in_ok-read_form.ensures) c.read_show_rule.ensures
