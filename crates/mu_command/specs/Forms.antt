@@ -1,10 +1,10 @@
 -- The forms of commands, and the words that each begins with.
-use Rattle.std.specs.Prelude.{ℕ, ◌==◌, List, [], ◌∷◌, Bool, Option, Some, option_and_then, find, ◌≡◌, map}
-use Rattle.std.specs.List.{join_with_byte}
-use Rattle.mu_tables.specs.Words.{number_of, some_begins}
+use Rattle.std.specs.Prelude.{ℕ, ◌==◌, List, [], ◌∷◌, Bool, Option, Some, option_and_then, find, ◌≡◌, ◌↔◌, ◌++◌, map}
+use Rattle.std.specs.List.{join_with_byte, slice_split}
+use Rattle.mu_tables.specs.Words.{number_of, some_begins, text_of}
 use Rattle.mu_tables.specs.Tables.{the_forms}
 use Rattle.mu_grammar.specs.declared.symbol.Word.TheVariants.{Plain}
-use Rattle.mu_grammar.specs.Lexemes.{Lexeme, word}
+use Rattle.mu_grammar.specs.Lexemes.{Lexeme, word, items_of}
 use Rattle.mu_grammar.specs.Parts.{Out}
 use Rattle.mu_command.specs.Words.{read_words}
 use Rattle.mu_command.specs.declared.forms.Form.{Form}
@@ -41,6 +41,14 @@ is_front front = some_begins front the_forms
 -- the tokens are plain words, which with one blank between each two are the text of the form's row in the table
 abbrev pub FormWords : List Lexeme → Form → Type 0
 FormWords ts form = (texts : List (List ℕ)) × (ts ≡ map (word Plain) texts) × (number_of (join_with_byte 32 texts) the_forms ≡ Some (number form))
+
+-- the words of the form, which are the parts between the blanks in the text of its row
+abbrev pub words : Form → List (List ℕ)
+words form = slice_split (λ byte. byte == 32) (text_of (number form) the_forms)
+
+-- the law of the words of forms: at any place of a line, the tokens of a form are its words
+unfoldable pub FormsAreWords : Type 0
+FormsAreWords = (line : List ℕ) (before ts after : List Lexeme) (form : Form) → items_of line ≡ before ++ (ts ++ after) → FormWords ts form ↔ (ts ≡ map (word Plain) (words form))
 
 -- reads the words of a form
 unfoldable pub read_form : List Lexeme → Out Form

@@ -34,6 +34,11 @@ abbrev pub word_of : ℕ → List Row → Option (Bor (List ℕ))
 word_of n [] = None
 word_of n (row ∷ rows) = if nat_eq row.number n then Some row.text else word_of n rows
 
+-- the text of the first row with the number; empty where none has it
+abbrev pub text_of : ℕ → List (List ℕ × ℕ) → List ℕ
+text_of n [] = []
+text_of n (row ∷ rows) = if nat_eq row.1 n then row.0 else text_of n rows
+
 -- the one text comes before the other in the order of bytes
 abbrev pub comes_before : List ℕ → List ℕ → Bool
 comes_before [] [] = false
