@@ -17,7 +17,8 @@ use Rattle.mu_command.specs.declared.command.Command.{Command}
 use Rattle.mu_command.specs.Grammar.{Written, Spells, GivesCommand, command_of, trees_of_command, read_command}
 use Rattle.mu_grammar.specs.Texts.{has_short_tokens, column}
 use Rattle.mu_text.proofs.Lines.{line_kept}
-use Rattle.mu_command.specs.Readings.{IsRead, ReadingIsExact, Says, first_limit, limit_of, within_limits, read_as, reading_of}
+use Rattle.mu_command.specs.Readings.{IsRead, ReadingIsExact, Says, first_limit, limit_of, or_text, within_limits, read_as, reading_of}
+use Rattle.mu_command.specs.Canonical.{is_long}
 use Rattle.mu_command.proofs.Exact.{Exact-command}
 use Rattle.mu_command.proofs.Meant.{command_meant}
 
@@ -65,11 +66,11 @@ none_left (T ∷ rest) e = absurd (omega arith)
 
 -- what the code answers of a command that is read to the end is what the line reads as
 pub read_value : (line : List ℕ) (c : Command) (e : Excess) (rest : List Lexeme) (answer : Reading) → GivesCommand no_excess e (items_of line) (Ok c) rest → length rest ≡ 0
-    → answer ≡ within_limits (first_limit (has_short_tokens line) e) c → answer ≡ reading_of line
+    → answer ≡ within_limits (or_text (first_limit (has_short_tokens line) e) (is_long c)) c → answer ≡ reading_of line
 unfolding reading_of
 read_value line c e rest answer read none is =
-    is ∙ (ap (λ x. within_limits (first_limit (has_short_tokens line) x) c) (read.stands.1 ∙ raised-none (trees_of_command read.value))
-    ∙ (by_limit (limit_of line read.value) refl ∙ sym (ap (read_as line) whole)))
+    is ∙ (ap (λ x. within_limits (or_text (first_limit (has_short_tokens line) x) (is_long c)) c) (read.stands.1 ∙ raised-none (trees_of_command read.value))
+    ∙ (by_limit (first_limit (has_short_tokens line) (excess_of (trees_of_command read.value))) refl ∙ sym (ap (read_as line) whole)))
   where
     whole : read_command (items_of line) ≡ found read.value []
     whole = read.is ∙ ap (λ r. found read.value r) (none_left rest none)
@@ -77,8 +78,9 @@ read_value line c e rest answer read none is =
     spells : Spells (items_of line) read.value
     spells = reads_exactly read_command Spells Exact-command (items_of line) (found read.value []) whole
 
-    by_limit : (passed : Option LimitWord) → limit_of line read.value ≡ passed → within_limits passed c ≡ within_limits passed (command_of read.value)
+    by_limit : (passed : Option LimitWord) → first_limit (has_short_tokens line) (excess_of (trees_of_command read.value)) ≡ passed
+        → within_limits (or_text passed (is_long c)) c ≡ within_limits (or_text passed (is_long (command_of read.value))) (command_of read.value)
     by_limit None i =
         let within = none_past (has_short_tokens line) (excess_of (trees_of_command read.value)) i in
-        ap (λ x. reading.Command x) (command_meant read.value (items_of line) c spells (line_kept line within.0) read.stands.0 within.1)
+        ap (λ x. within_limits (or_text None (is_long x)) x) (command_meant read.value (items_of line) c spells (line_kept line within.0) read.stands.0 within.1)
     by_limit (Some word) i = refl

@@ -13,7 +13,8 @@ use Rattle.mu_command.specs.declared.readings.Reading.TheVariants as reading
 use Rattle.mu_grammar.specs.Excesses.{excess_of}
 use Rattle.mu_command.specs.Grammar.{Written, command_of, trees_of_command, read_command}
 use Rattle.mu_grammar.specs.Texts.{segments_of, has_short_tokens}
-use Rattle.mu_command.specs.Readings.{first_limit, within_limits, read_as, reading_of}
+use Rattle.mu_command.specs.Readings.{first_limit, or_text, within_limits, read_as, reading_of}
+use Rattle.mu_command.specs.Canonical.{is_long}
 
 is_short_lexeme : BareToken → Bool
 is_short_lexeme x = is_short (segments_of x.0 x.1)
@@ -27,7 +28,7 @@ spaced_short line = sym (short_lexemes (spaced line)) ∙ (ap (list_all is_short
 
 -- a command that is read depends on the lines' names alone
 read_anywhere : (line other : List ℕ) (out : Out Written) (c : Command) → has_short_tokens other ≡ has_short_tokens line → read_as line out ≡ reading.Command c → read_as other out ≡ reading.Command c
-read_anywhere line other (found w []) c same e = ap (λ short. within_limits (first_limit short (excess_of (trees_of_command w))) (command_of w)) same ∙ e
+read_anywhere line other (found w []) c same e = ap (λ short. within_limits (or_text (first_limit short (excess_of (trees_of_command w))) (is_long (command_of w))) (command_of w)) same ∙ e
 read_anywhere line other (found w (T ∷ rest)) c same e = cc
 read_anywhere line other (stopped rest) c same e = cc
 

@@ -1,3 +1,4 @@
+pub mod Canonical
 pub mod Forms
 pub mod Grammar
 pub mod Parts

@@ -11,15 +11,21 @@ use Rattle.mu_grammar.specs.Texts.{has_short_tokens, column}
 use Rattle.mu_command.specs.declared.command.Command.{Command}
 use Rattle.mu_command.specs.declared.readings.Reading.{Reading}
 use Rattle.mu_command.specs.declared.readings.Reading.TheVariants as reading
+use Rattle.mu_command.specs.Canonical.{is_long}
 use Rattle.mu_command.specs.Grammar.{Written, Spells, command_of, trees_of_command, read_command}
 
 -- the first limit that is passed, by whether the names are within theirs and by the limits that trees pass: names go before nodes, and these before depth
 abbrev pub first_limit : Bool → Excess → Option LimitWord
 first_limit short e = if short then (if e.nodes then Some limit.Nodes else (if e.depth then Some limit.Depth else None)) else Some limit.Name
 
+-- the limit that is passed, the one on canonical text behind the others
+abbrev pub or_text : Option LimitWord → Bool → Option LimitWord
+or_text (Some word) long = Some word
+or_text None long = if long then Some limit.Text else None
+
 -- the first limit that a line passes on which this command is written
 abbrev pub limit_of : List ℕ → Written → Option LimitWord
-limit_of line w = first_limit (has_short_tokens line) (excess_of (trees_of_command w))
+limit_of line w = or_text (first_limit (has_short_tokens line) (excess_of (trees_of_command w))) (is_long (command_of w))
 
 -- the command, or the limit that is passed
 abbrev pub within_limits : Option LimitWord → Command → Reading

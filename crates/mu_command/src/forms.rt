@@ -5,8 +5,8 @@ ghost use Rattle.mu_grammar.specs.Parts.{Gives, Same, first_as, starts};
 ghost use Rattle.mu_command.specs.Forms.{forms, is_front, named, number, numbered, read_form};
 ghost use Rattle.mu_command.specs.Words.{ended_by, goes_on};
 
-use mu_tables::forms;
 use mu_grammar::{PartFault, Sort, Word};
+use mu_tables::forms;
 use mu_text::Reader;
 
 /// The forms of commands.
@@ -64,7 +64,9 @@ fn form_ended(front: &[u8], reader: &Reader) -> Option<Form>
     ensures { result ≡ first_as (ended_by named front.now) reader.now }
 {
     match reader.peek() {
-        Some(Sort::Word(Word::Plain)) => forms().find_behind(front, reader.bytes()).and_then(numbered),
+        Some(Sort::Word(Word::Plain)) => forms()
+            .find_behind(front, reader.bytes())
+            .and_then(numbered),
         _ => None,
     }
 }

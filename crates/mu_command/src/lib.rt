@@ -4,8 +4,10 @@
 mod command;
 mod forms;
 mod grammar;
+mod prints;
 mod readings;
 
 pub use command::Command;
 pub use grammar::read_command;
+pub use prints::print;
 pub use readings::{Reading, read};

@@ -2,21 +2,26 @@ ghost use Rattle.std.specs.Prelude.{◌≡◌, ◌-◌, ◌<◌, ◌^◌, length
 ghost use Rattle.mu_command.specs.declared.readings.Reading.TheVariants as Reading;
 ghost use Rattle.mu_grammar.specs.Texts.{AreWithin, column};
 ghost use Rattle.mu_command.specs.Forms.{FormsAreWords};
-ghost use Rattle.mu_command.specs.Readings.{ReadingIsExact, first_limit, reading_of, within_limits};
+ghost use Rattle.mu_command.specs.Readings.{ReadingIsExact, first_limit, or_text, reading_of, within_limits};
+ghost use Rattle.mu_command.specs.Canonical.{is_long};
 
 use crate::command::Command;
 use crate::grammar::read_command;
+use crate::prints::print;
 use mu_grammar::{Excess, PartFault, Token};
 use mu_text::{Reader, Tokens, are_short, column};
 use mu_tree::{LimitWord, NoMemory};
 use std::alloc::Global;
+
+/// The most bytes that the canonical text of a command may have.
+const LONGEST_TEXT: usize = 65_536;
 
 /// What a line reads as.
 #[derive(Debug, Drop)]
 pub enum Reading {
     /// A command.
     Command(Command),
-    /// A command that passes this limit, the first of name, nodes and depth.
+    /// A command that passes this limit, the first of name, nodes, depth and text.
     Limit(LimitWord),
     /// No command. The column, from 1, is that of the first token with which no command goes on; where the tokens
     /// end before some command does, it is the one behind the last token.
@@ -41,7 +46,8 @@ pub fn read(alloc: Global, line: &[u8]) -> Result<Reading, NoMemory>
     match read_command(alloc, &mut reader, &mut excess) {
         Ok(command) => {
             if reader.len() == 0 {
-                let passed = first_limit(are_short(line, tokens.items()), excess);
+                let first = first_limit(are_short(line, tokens.items()), excess);
+                let passed = or_text(alloc, first, &command)?;
                 return Ok(within_limits(passed, command));
             }
             Ok(refused(line, tokens.items(), reader.len()))
@@ -61,7 +67,21 @@ fn within_limits(passed: Option<LimitWord>, command: Command) -> Reading
     }
 }
 
-/// The first limit that is passed, if one is.
+/// The limit that is passed; where none is, the one on the canonical text of the command, if it passes that.
+fn or_text(
+    alloc: Global,
+    passed: Option<LimitWord>,
+    command: &Command,
+) -> Result<Option<LimitWord>, NoMemory>
+    ensures { IfOk result (λ word. word ≡ or_text passed (is_long command.now)) }
+{
+    if passed.is_none() && print(alloc, command)?.len() > LONGEST_TEXT {
+        return Ok(Some(LimitWord::Text));
+    }
+    Ok(passed)
+}
+
+/// The first limit of names and trees that is passed, if one is.
 fn first_limit(short: bool, excess: Excess) -> Option<LimitWord>
     ensures { result ≡ first_limit short excess }
 {
