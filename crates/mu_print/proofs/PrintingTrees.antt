@@ -184,6 +184,8 @@ pub level-Bind : (binder var : List ℕ) (dom body : Tree) → level_of (tree.Bi
 unfolding level_of
 level-Bind binder var dom body = ap level (canonical-Bind binder var dom body)
 
-pub ruleset texts_by_top = (text-call_one, text-call_two, text-call, text-negation, text-operation, text-Meta, text-Bind)
-pub ruleset levels_by_top = (level-call_one, level-call_two, level-call, level-negation, level-operation, level-Meta, level-Bind)
-pub ruleset operands = (operand-bare, operand-wrapped)
+-- the level of a tree that is no operator's
+pub ruleset levels_by_top = (level-call, level-Meta, level-Bind)
+
+-- an operand as it is, or in parentheses
+pub ruleset operands = (operand-bare, operand-wrapped, append_assoc)

@@ -17,7 +17,6 @@ use std::alloc::AllocError;
 ///
 /// `AllocError`, with some of the text added.
 #[cycle(tree)]
-#[tactic(auto, using(crate::proofs::PrintingTrees::texts_by_top))]
 pub fn tree(out: &mut Vec<u8>, tree: &Tree) -> Result<(), AllocError>
     ensures { OnOk result (out.new.items ≡ out.old.items ++ tree_text tree.now) }
 {
@@ -56,7 +55,6 @@ fn binder_head(out: &mut Vec<u8>, binder: &[u8], var: &[u8]) -> Result<(), Alloc
 
 /// Adds an application: `not` or an operator with its operands, or a name with its arguments in brackets.
 #[cycle(tree)]
-#[tactic(auto, using(crate::proofs::PrintingTrees::texts_by_top))]
 fn application(out: &mut Vec<u8>, name: &[u8], arguments: &[Tree]) -> Result<(), AllocError>
     ensures { OnOk result (out.new.items ≡ out.old.items ++ tree_text (tree_of.App name.now arguments.now)) }
 {
