@@ -184,8 +184,14 @@ pub level-Bind : (binder var : List ℕ) (dom body : Tree) → level_of (tree.Bi
 unfolding level_of
 level-Bind binder var dom body = ap level (canonical-Bind binder var dom body)
 
--- the level of a tree that is no operator's
-pub ruleset levels_by_top = (level-call, level-Meta, level-Bind)
+-- the level of a tree
+pub ruleset levels_by_top = (level-call_one, level-call_two, level-call, level-negation, level-operation, level-Meta, level-Bind)
 
 -- an operand as it is, or in parentheses
 pub ruleset operands = (operand-bare, operand-wrapped, append_assoc)
+
+-- the text of a tree that is no application
+pub ruleset texts_by_top = (text-Meta, text-Bind, append_assoc)
+
+-- the text of an application
+pub ruleset application_texts = (text-call_one, text-call_two, text-call, text-negation, text-operation, append_assoc)
