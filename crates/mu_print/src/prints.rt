@@ -46,3 +46,35 @@ pub fn print_why(alloc: Global, why: &Why) -> Result<Bytes, NoMemory>
     reason(&mut text, why)?;
     Ok(Bytes::from_vec(text))
 }
+
+#[cfg(test)]
+mod tests {
+    use super::*;
+    use mu_tree::{Hyp, Hyps, Name, Ref, Refs, Trees};
+    use std::test::Fail;
+
+    fn leaf(alloc: Global, name: &[u8]) -> Result<Tree, Fail> {
+        Ok(Tree::App(Name::read(alloc, name)?, Trees::new(alloc)))
+    }
+
+    #[test]
+    fn prints_a_claim_and_a_reason(rt: HostRuntime) -> Result<(), Fail> {
+        let alloc = rt.alloc();
+        let mut sides = Trees::new(alloc);
+        sides.push(leaf(alloc, b"p")?)?;
+        sides.push(leaf(alloc, b"q")?)?;
+        let mut hyps = Hyps::new(alloc);
+        hyps.push(Hyp::Plain(leaf(alloc, b"q")?))?;
+        let conclusion = Tree::App(Name::read(alloc, b"imp")?, sides);
+        let text = print_claim(alloc, &Claim { hyps, conclusion })?;
+        assert!(rt; text.items() == b"q |- p => q".as_slice());
+        let mut terms = Trees::new(alloc);
+        terms.push(leaf(alloc, b"x")?)?;
+        let mut refs = Refs::new(alloc);
+        refs.push(Ref::Item(Name::read(alloc, b"l")?))?;
+        refs.push(Ref::Assumption(Name::read(alloc, b"b")?, 12))?;
+        let text = print_why(alloc, &Why::Hypothesis { n: 2, terms, refs })?;
+        assert!(rt; text.items() == b"hyp #2 with x from l, b#12".as_slice());
+        Ok(())
+    }
+}
