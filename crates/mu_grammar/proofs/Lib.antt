@@ -5,3 +5,4 @@ pub mod Measures
 pub mod Numbers
 pub mod Runs
 pub mod Together
+pub mod Within

@@ -10,10 +10,11 @@ use Rattle.mu_grammar.specs.Excesses.{excess_of, no_excess, in_each}
 use Rattle.mu_grammar.specs.Limits.{WithinToken, WithinTokens}
 use Rattle.mu_grammar.specs.Texts.{IsOfLanguage, ReadsText, has_short_tokens}
 use Rattle.mu_grammar.proofs.Together.{all_parts, all_together, none_together, none_of_both}
+use Rattle.mu_grammar.proofs.Within.{line_kept}
 use Rattle.mu_print.specs.Sound.{SoundLexeme, SoundLexemes, RightLexeme, RightLexemes}
 use Rattle.mu_print.specs.Texts.{behind, between}
 use Rattle.mu_print.proofs.Scan.{scan, Stop, items_scan}
-use Rattle.mu_print.proofs.Lines.{line_sound, line_within, line_short}
+use Rattle.mu_print.proofs.Lines.{line_sound, line_short}
 
 -- the text has these tokens where no word goes on behind it
 abbrev pub Lexes : List ℕ → List Lexeme → Type 0
@@ -79,7 +80,7 @@ module _ {A B : Type 0} (G : List Lexeme → A → Type 0) (trees : A → List W
   -- what some text reads as is what its printed text reads as
   pub reads_back : Reprints G trees meant text → (y : B) → IsOfLanguage G trees meant y → ReadsText G trees meant (text y) (Ok y)
   reads_back again y (line, (x, g, short, none, is)) =
-      subst (λ (z : B). ReadsText G trees meant (text z) (Ok z)) (sym is) (reads_printed x (again (items_of line) x (line_sound line) (line_within line short) g none))
+      subst (λ (z : B). ReadsText G trees meant (text z) (Ok z)) (sym is) (reads_printed x (again (items_of line) x (line_sound line) (line_kept line short) g none))
 
   module _ (again : Reprints G trees meant text) (sign : Mark) (between_text : List ℕ) (stops : Stops between_text) (lexes : LexesAlways between_text (mark sign ∷ [])) (right : RightLexeme (mark sign)) where
     -- the items behind the first

@@ -184,6 +184,14 @@ pub level-Bind : (binder var : List ℕ) (dom body : Tree) → level_of (tree.Bi
 unfolding level_of
 level-Bind binder var dom body = ap level (canonical-Bind binder var dom body)
 
-pub ruleset texts_by_top = (text-call_one, text-call_two, text-call, text-negation, text-operation, text-Meta, text-Bind)
+-- the level of a tree
 pub ruleset levels_by_top = (level-call_one, level-call_two, level-call, level-negation, level-operation, level-Meta, level-Bind)
-pub ruleset operands = (operand-bare, operand-wrapped)
+
+-- an operand as it is, or in parentheses
+pub ruleset operands = (operand-bare, operand-wrapped, append_assoc)
+
+-- the text of a tree that is no application
+pub ruleset texts_by_top = (text-Meta, text-Bind, append_assoc)
+
+-- the text of an application
+pub ruleset application_texts = (text-call_one, text-call_two, text-call, text-negation, text-operation, append_assoc)

@@ -56,12 +56,15 @@ fn binder_head(out: &mut Vec<u8>, binder: &[u8], var: &[u8]) -> Result<(), Alloc
 
 /// Adds an application: `not` or an operator with its operands, or a name with its arguments in brackets.
 #[cycle(tree)]
-#[tactic(auto, using(crate::proofs::PrintingTrees::texts_by_top))]
+#[tactic(auto, using(crate::proofs::PrintingTrees::application_texts))]
 fn application(out: &mut Vec<u8>, name: &[u8], arguments: &[Tree]) -> Result<(), AllocError>
     ensures { OnOk result (out.new.items ≡ out.old.items ++ tree_text (tree_of.App name.now arguments.now)) }
 {
     match arguments {
-        [only] if is_negation(name) => {
+        [only] => {
+            if !is_negation(name) {
+                return call(out, name, arguments);
+            }
             add(out, b"not ")?;
             operand(out, only, PREFIX_LEVEL)
         }
@@ -73,16 +76,21 @@ fn application(out: &mut Vec<u8>, name: &[u8], arguments: &[Tree]) -> Result<(),
                 add(out, b" ")?;
                 operand(out, right, op.right)
             }
-            None => {
-                add(out, name)?;
-                list(out, b"(", arguments, b")")
-            }
+            None => call(out, name, arguments),
         },
-        _ => {
-            add(out, name)?;
-            list(out, b"(", arguments, b")")
-        }
+        _ => call(out, name, arguments),
     }
+}
+
+/// Adds a name with its arguments in brackets, where it has any.
+#[cycle(tree)]
+#[tactic(auto, using(std::proofs::Common::append_assoc))]
+fn call(out: &mut Vec<u8>, name: &[u8], arguments: &[Tree]) -> Result<(), AllocError>
+    ensures { OnOk result (out.new.items ≡ out.old.items
+        ++ (name.now ++ surrounded (codes "(") (codes ", ") (codes ")") (map tree_text arguments.now))) }
+{
+    add(out, name)?;
+    list(out, b"(", arguments, b")")
 }
 
 /// Adds a tree where one of at least this level is wanted: in parentheses where its own is less.
@@ -136,7 +144,13 @@ fn application_level(name: &[u8], arguments: &[Tree]) -> u8
     ensures { result ≡ level_of (tree_of.App name.now arguments.now) }
 {
     match arguments {
-        [_] if is_negation(name) => PREFIX_LEVEL,
+        [_] => {
+            if is_negation(name) {
+                PREFIX_LEVEL
+            } else {
+                ATOM_LEVEL
+            }
+        }
         [_, _] => match Op::named(name) {
             Some(op) => op.level,
             None => ATOM_LEVEL,

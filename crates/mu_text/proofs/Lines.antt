@@ -26,64 +26,11 @@ use Rattle.mu_grammar.specs.Writings.{Writing}
 use Rattle.mu_grammar.specs.Excesses.{excess_of, no_excess, Raising}
 use Rattle.mu_grammar.specs.Limits.{WithinToken, WithinTokens, IsMeant}
 use Rattle.mu_grammar.specs.Texts.{segments_of, is_short_token, has_short_tokens, AreWithin, column, ReadsText, within_limits, answer}
+pub use Rattle.mu_grammar.proofs.Within.{line_kept}
 use Rattle.mu_text.proofs.Exact.{Exact}
 use Rattle.mu_text.proofs.Excesses.{raised-none}
 use Rattle.mu_text.proofs.Facts.{IsTokenOf, tokens_hold}
 use Rattle.mu_text.proofs.Whole.{read_whole, left_over, left_off}
-
-no_dot : (byte : ℕ) → is_name_byte byte ≡ true → (byte == 46) ≡ false
-no_dot byte e = grind (arith, nat_tests)
-
-letter_no_dot : (byte : ℕ) → is_letter byte ≡ true → (byte == 46) ≡ false
-letter_no_dot byte e = grind (arith, nat_tests)
-
-no_dots : (bytes : List ℕ) → list_all is_name_byte bytes ≡ true → AllByRecursion (λ byte. (byte == 46) ≡ false) bytes
-no_dots [] e = tt
-no_dots (byte ∷ bytes) e = let parts = and_parts (is_name_byte byte) (list_all is_name_byte bytes) e in (no_dot byte parts.0, no_dots bytes parts.1)
-
--- what an item is made of is a name, or it is a mark
-sort_kept : (s : Sort) (text : List ℕ) → IsName text → WithinToken (item_of s text)
-sort_kept (sort.Word word.Plain) text n = n
-sort_kept (sort.Word word.Dotted) text n = n
-sort_kept (sort.Word word.True) text n = n
-sort_kept (sort.Word word.Meta) text n = n
-sort_kept (sort.Word word.Place) text n = tt
-sort_kept (sort.Mark m) text n = tt
-
--- a segment is a name
-segment_is_name : (text : List ℕ) → is_segment text ≡ true → is_name text ≡ true
-segment_is_name [] e = absurd (false≢true e)
-segment_is_name (byte ∷ bytes) e =
-    let parts = and_parts (is_letter byte) (list_all is_name_byte bytes) e in
-    let letter : (byte == 46) ≡ false = letter_no_dot byte parts.0 in
-    let alone : segments (byte ∷ bytes) ≡ (byte ∷ bytes) ∷ [] = slice_split_none (λ b. b == 46) (byte ∷ bytes) (All-from_recursion (λ b. (b == 46) ≡ false) (byte ∷ bytes) (letter, no_dots bytes parts.1)) in
-    ap (λ ss. list_all is_segment ss && nat_le (length ss) 3) alone ∙ ap (λ b. (b && true) && true) e
-
-meta_segment : (text : List ℕ) → is_meta text ≡ true → is_segment (drop 1 text) ≡ true
-meta_segment [] e = absurd (false≢true e)
-meta_segment (byte ∷ bytes) e = (and_parts (byte == 63) (is_segment bytes) e).1
-
--- a token by its sort and its bytes
-kept_as : (s : TokenSort) (text : List ℕ) → (s ≡ Name → is_name text ≡ true) → (s ≡ Meta → is_meta text ≡ true) → is_short (segments_of s text) ≡ true → WithinToken (item_of (sort_in text s) (word_in text s))
-kept_as Name text name meta short = sort_kept (sort_in text Name) text (record { spelled = name refl; short = short })
-kept_as Meta text name meta short = record { spelled = segment_is_name (drop 1 text) (meta_segment text (meta refl)); short = short }
-kept_as Place text name meta short = tt
-kept_as Symbol text name meta short = tt
-kept_as Wrong text name meta short = tt
-
-token_kept : (line : List ℕ) (token : Token) → IsTokenOf line token → is_short_token line token ≡ true → WithinToken (item line token)
-unfolding item
-token_kept line token is short = kept_as token.sort (text_of line token) is.name is.meta short
-
-tokens_kept : (line : List ℕ) (ts : List Token) → AllByRecursion (IsTokenOf line) ts → list_all (is_short_token line) ts ≡ true → WithinTokens (items line ts)
-tokens_kept line [] is short = tt
-tokens_kept line (token ∷ ts) is short =
-    let parts = and_parts (is_short_token line token) (list_all (is_short_token line) ts) short in
-    (token_kept line token is.0 parts.0, tokens_kept line ts is.1 parts.1)
-
--- the names of a line are kept, where no segment is too long
-pub line_kept : (line : List ℕ) → has_short_tokens line ≡ true → WithinTokens (items_of line)
-line_kept line short = tokens_kept line (tokens line) (tokens_hold line) short
 
 same_length : (line : List ℕ) → length (items_of line) ≡ length (tokens line)
 same_length line = length-map (tokens line) (item line)
