@@ -1,9 +1,8 @@
 -- The grammar's operators are the table's: each mark by computing.
-use Rattle.std.proofs.Common.{◌≡◌, Some, None, refl}
-use Rattle.mu_tables.specs.Operators.{Written}
+use Rattle.std.proofs.Common.{refl}
 use Rattle.mu_grammar.specs.declared.symbol.Mark.{Mark}
 use Rattle.mu_grammar.specs.declared.symbol.Mark.TheVariants.{And, Or, Not, Iff, Imp, Eq, Colon, Open, Close, OpenBracket, CloseBracket, OpenBrace, CloseBrace, Comma, Semicolon, Dot, Becomes, Bar, Turnstile, Arrow, Wrong}
-use Rattle.mu_grammar.specs.Agreement.{AgreesWithTable, OperatorsAgree, entry_of}
+use Rattle.mu_grammar.specs.Agreement.{AgreesWithTable, OperatorsAgree}
 
 agrees : (sign : Mark) → AgreesWithTable sign
 agrees And = record { operator = refl; constant = λ entry is. cc }

@@ -1,19 +1,19 @@
 -- The tokens of a line without their places, and how each is spelled.
-use Rattle.std.proofs.Common.{◌≡◌, ℕ, zero, suc, ◌+◌, ◌-◌, ◌≤◌, min, Bool, true, false, cond, List, [], ◌∷◌, ◌++◌, length, take, drop, map, refl, ap, sym, ◌∙◌, subst, append_assoc, length-append, arith, inl, inr}
+use Rattle.std.proofs.Common.{◌≡◌, ℕ, zero, suc, ◌+◌, ◌-◌, ◌≤◌, min, Bool, true, false, cond, List, [], ◌∷◌, ◌++◌, length, take, drop, map, refl, ap, sym, ◌∙◌, subst, append_assoc, length-append, arith}
 use Rattle.std.specs.Prelude.{if◌then◌else◌, nat_le, ◌&&◌, ◌==◌}
 use Rattle.std.specs.List.{list_all, prefix_len, AllByRecursion}
 use Rattle.std.proofs.lemmas.Bool.{and_parts, and_from, cond_both, eqb-true}
 use Rattle.std.proofs.lemmas.Bool.Decides.{nat_tests}
 use Rattle.std.proofs.Math.Seq.{drop-append_seam, take_all}
 use Rattle.std.proofs.lemmas.List.{length-take}
-use Rattle.mu_tree.specs.Names.{is_letter, is_digit, is_name_byte, is_segment, is_name, segments, are_segments}
+use Rattle.mu_tree.specs.Names.{is_letter, is_digit, is_name_byte, is_segment}
 use Rattle.mu_grammar.specs.declared.token.Token.{Token}
 use Rattle.mu_grammar.specs.declared.token.TokenSort.{TokenSort}
 use Rattle.mu_grammar.specs.declared.token.TokenSort.TheVariants.{Name, Meta, Place, Symbol, Wrong}
 use Rattle.mu_grammar.specs.Reading.{is_blank, starts_positive, text_of}
 use Rattle.mu_grammar.specs.Tokens.{starts_letter, run_length, dots, name_sort, is_arrow, is_pair, is_single, first_token, tokens_from, tokens}
 use Rattle.mu_grammar.specs.SimpleParts.{is_number}
-use Rattle.mu_grammar.proofs.Runs.{letter_is_name_byte, are_segments-letter, is_rest, is_rest-take_run, run_length-longest, run_length-le, length-segments}
+use Rattle.mu_grammar.proofs.Runs.{letter_is_name_byte, is_rest, is_rest-take_run, run_length-longest, run_length-le}
 
 -- a token without its place: its sort and its bytes
 abbrev pub Bare : Type 0

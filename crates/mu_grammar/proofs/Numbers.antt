@@ -1,5 +1,5 @@
 -- Decimal numbers are read back, and what digits spell is a number with nine digits at most.
-use Rattle.std.proofs.Common.{◌≡◌, ℕ, zero, suc, ◌+◌, ◌-◌, ◌*◌, ◌/◌, ◌%◌, ◌^◌, ◌<◌, ◌≤◌, Bool, true, false, List, [], ◌∷◌, ◌++◌, Some, None, cond, length, refl, ap, sym, ◌∙◌, subst, arith}
+use Rattle.std.proofs.Common.{◌≡◌, ℕ, ◌+◌, ◌-◌, ◌*◌, ◌/◌, ◌%◌, ◌^◌, ◌<◌, ◌≤◌, Bool, true, false, List, [], ◌∷◌, ◌++◌, Some, None, cond, length, refl, ap, ◌∙◌, arith}
 use Rattle.std.specs.Prelude.{nat_le, ◌&&◌, if◌then◌else◌}
 use Rattle.std.specs.List.{list_all, prefix_len}
 use Rattle.std.specs.Fmt.{decimal}
@@ -10,7 +10,7 @@ use Rattle.std.proofs.lemmas.List.Folds.{list_all-append}
 use Rattle.mu_tree.specs.Names.{is_digit}
 use Rattle.mu_grammar.specs.Reading.{starts_positive}
 use Rattle.mu_grammar.specs.SimpleParts.{is_number, number_from, number_of}
-use Rattle.mu_grammar.proofs.Digits.{Room, Next, room_first, room_next}
+use Rattle.mu_grammar.proofs.Digits.{Room, room_first, room_next}
 
 number_from-push : (n : ℕ) (digits : List ℕ) (d : ℕ) → number_from n (digits ++ ((48 + d) ∷ [])) ≡ number_from n digits * 10 + d
 number_from-push n [] d = omega arith

@@ -4,7 +4,7 @@ use Rattle.std.specs.Str.{bytes_eq}
 use Rattle.mu_tables.specs.Operators.{Written}
 use Rattle.mu_tables.specs.Tables.{the_operators}
 use Rattle.mu_tables.specs.declared.ops.Side.{Side}
-use Rattle.mu_tables.specs.declared.ops.Side.TheVariants.{Neither, Left, Right, Prefix}
+use Rattle.mu_tables.specs.declared.ops.Side.TheVariants.{Prefix}
 use Rattle.mu_grammar.specs.declared.ops.Op.{Op}
 use Rattle.mu_grammar.specs.declared.symbol.Mark.{Mark}
 use Rattle.mu_grammar.specs.declared.symbol.Mark.TheVariants.{Not}

@@ -18,15 +18,8 @@ use Rattle.mu_print.specs.Laws.{ClaimsReadBack}
 use Rattle.mu_print.specs.Sound.{SoundLexeme, SoundLexemes, RightLexeme}
 use Rattle.mu_print.proofs.Scan.{scan}
 use Rattle.mu_print.proofs.Again.{Lexes, LexesAlways, lexes-behind, lexes-before, Printed, Reprints, reads_back, reprints_separated}
+use Rattle.mu_print.proofs.Separators.{semicolon_run, turnstile_run}
 use Rattle.mu_print.proofs.TreesBack.{reprints_tree}
-
-semicolon_run : LexesAlways (codes "; ") (mark Semicolon ∷ [])
-unfolding first_token
-semicolon_run r = refl
-
-turnstile_run : LexesAlways (codes " |- ") (mark Turnstile ∷ [])
-unfolding first_token
-turnstile_run r = refl
 
 reprints_hypothesis : Reprints IsHypothesis trees_in_hypothesis hyp_of hypothesis_text
 unfolding hypothesis_text

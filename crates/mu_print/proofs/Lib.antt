@@ -7,6 +7,7 @@ pub mod Parentheses
 pub mod PrintingTrees
 pub mod ReasonsBack
 pub mod Scan
+pub mod Separators
 pub mod TreeInduction
 pub mod TreesBack
 pub mod Words

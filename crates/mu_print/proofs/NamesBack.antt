@@ -21,6 +21,7 @@ use Rattle.mu_print.specs.Texts.{between, surrounded, reference_text}
 use Rattle.mu_print.specs.Sound.{SoundLexeme, SoundLexemes, RightLexeme}
 use Rattle.mu_print.proofs.Scan.{scan, Stop, run_stop, word_run}
 use Rattle.mu_print.proofs.Again.{Lexes, LexesAlways, KeepsStop, lexes-behind, lexes-before, lexes-nothing, keeps_stop-first, Printed, Reprints, reprints_separated}
+use Rattle.mu_print.proofs.Separators.{comma_run}
 
 and_run : Lexes (codes "and") (mark And ∷ [])
 unfolding first_token
@@ -139,10 +140,6 @@ reprints_reference ts (ref.Hypothesis n) sound within (T, e, is) none =
       limits = refl;
       means = refl;
     }
-
-comma_run : LexesAlways (codes ", ") (mark Comma ∷ [])
-unfolding first_token
-comma_run r = refl
 
 pub no_trees_in : {A : Type 0} (xs : List A) → excess_of (in_each no_trees xs) ≡ no_excess
 no_trees_in [] = refl

@@ -26,39 +26,12 @@ use Rattle.mu_print.specs.Laws.{ReasonsReadBack}
 use Rattle.mu_print.specs.Sound.{SoundLexeme, SoundLexemes, RightLexeme}
 use Rattle.mu_print.proofs.Scan.{scan, Stop, word_run}
 use Rattle.mu_print.proofs.Again.{Lexes, LexesAlways, Stops, KeepsStop, lexes-behind, lexes-before, lexes-together, lexes-nothing, stops-first, keeps_stop-first, Printed, Reprints, reads_back, reprints_separated}
+use Rattle.mu_print.proofs.Separators.{semicolon_run, becomes_run, open_bracket_run, close_bracket_run, rule_run, from_run, with_run}
 use Rattle.mu_print.proofs.TreesBack.{reprints_tree}
 use Rattle.mu_print.proofs.NamesBack.{itself, map_itself, no_trees_in, reprints_name, reprints_vars, reprints_references}
 
 keeps_stop-together : (a b : List ℕ) → KeepsStop a → KeepsStop b → KeepsStop (a ++ b)
 keeps_stop-together a b h i r s = subst Stop (sym (append_assoc a b r)) (h (b ++ r) (i r s))
-
-open_bracket_run : LexesAlways (codes "[") (mark OpenBracket ∷ [])
-unfolding first_token
-open_bracket_run r = refl
-
-close_bracket_run : LexesAlways (codes "]") (mark CloseBracket ∷ [])
-unfolding first_token
-close_bracket_run r = refl
-
-becomes_run : LexesAlways (codes " := ") (mark Becomes ∷ [])
-unfolding first_token
-becomes_run r = refl
-
-semicolon_run : LexesAlways (codes "; ") (mark Semicolon ∷ [])
-unfolding first_token
-semicolon_run r = refl
-
-rule_run : LexesAlways (codes "rule ") (word Plain (codes "rule") ∷ [])
-unfolding first_token
-rule_run r = refl
-
-from_run : LexesAlways (codes " from ") (word Plain (codes "from") ∷ [])
-unfolding first_token
-from_run r = refl
-
-with_run : LexesAlways (codes " with ") (word Plain (codes "with") ∷ [])
-unfolding first_token
-with_run r = refl
 
 -- the parameters of an abstraction, with their brackets
 abbrev parameters_text : List (List ℕ) → List ℕ
