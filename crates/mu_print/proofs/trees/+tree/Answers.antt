@@ -9,7 +9,8 @@ use Rattle.mu_print.proofs.trees.+tree.Goals.{application-in_default-via-then-ar
 pub application-returns-in_default : goal.application-returns-in_default
 application-returns-in_default t c =
     let e : tree_text (tree.App c.args.name.now c.args.arguments.now) ≡ c.args.name.now ++ surrounded (40 ∷ []) (44 ∷ 32 ∷ []) (41 ∷ []) (map tree_text c.args.arguments.now) =
-        elim c.in_default.branch [
-            application-in_default-via-then-arguments-lt1 w ↦ text-call c.args.name.now c.args.arguments.now (search rules) (search rules)
-            | application-in_default-via-else-arguments-lt1+else-arguments-lt2+else-arguments-lt3 w ↦ text-call c.args.name.now c.args.arguments.now (search rules) (search rules) ] in
+    elim c.in_default.branch [
+      | application-in_default-via-then-arguments-lt1 w ↦ text-call c.args.name.now c.args.arguments.now (search rules) (search rules)
+      | application-in_default-via-else-arguments-lt1+else-arguments-lt2+else-arguments-lt3 w ↦ text-call c.args.name.now c.args.arguments.now (search rules) (search rules)
+    ] in
     search rules
