@@ -12,11 +12,11 @@ use Rattle.mu_tree.specs.declared.trees.Tree.TheVariants as tree
 use Rattle.mu_grammar.specs.declared.ops.Op.{Op}
 use Rattle.mu_grammar.specs.declared.symbol.Word.{Word}
 use Rattle.mu_grammar.specs.declared.symbol.Word.TheVariants as head
-use Rattle.mu_grammar.specs.Lexemes.{name_word, mark}
-use Rattle.mu_grammar.specs.Ops.{is_negation, operator_named, prefix_level}
+use Rattle.mu_grammar.specs.Lexemes.{name_word}
+use Rattle.mu_grammar.specs.Ops.{is_negation, operator_named}
 use Rattle.mu_grammar.specs.Spellings.{mark_text, word_text, lexeme_text}
-use Rattle.mu_grammar.specs.Writings.{Writing, neg, bin, bind, paren, level, opener, closer}
-use Rattle.mu_print.specs.Canonical.{at_least, together, headed, with_one, with_two, applied, canonical_step, canonical, text_of, texts_of, tree_text}
+use Rattle.mu_grammar.specs.Writings.{Writing, bind, paren, level, opener, closer}
+use Rattle.mu_print.specs.Canonical.{together, headed, with_one, with_two, applied, canonical_step, canonical, text_of, texts_of, tree_text}
 use Rattle.mu_print.specs.Operands.{level_of, operand_text}
 use Rattle.mu_print.specs.Texts.{behind, between, surrounded}
 
