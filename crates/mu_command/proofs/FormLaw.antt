@@ -12,14 +12,13 @@ use Rattle.mu_tables.specs.Words.{number_of, text_of}
 use Rattle.mu_tables.specs.Tables.{the_forms}
 use Rattle.mu_tables.proofs.Fronts.{found_holds}
 use Rattle.mu_text.specs.declared.symbol.Word.TheVariants.{Plain}
-use Rattle.mu_text.specs.Lexemes.{Lexeme, word, items_of}
+use Rattle.mu_text.specs.Lexemes.{Lexeme, word}
 use Rattle.mu_text.specs.Tokens.{tokens}
 use Rattle.mu_text.proofs.Excesses.{all_parts}
 use Rattle.mu_text.proofs.Facts.{tokens_hold}
 use Rattle.mu_command.specs.declared.forms.Form.{Form}
 use Rattle.mu_command.specs.declared.forms.Form.TheVariants.{Theory}
 use Rattle.mu_command.specs.Forms.{number, words, FormWords, FormsAreWords}
-use Rattle.mu_command.specs.Plain.{IsPlain}
 use Rattle.mu_command.proofs.Plain.{IsPlainItem, tokens_plain}
 
 -- whether no byte is a blank

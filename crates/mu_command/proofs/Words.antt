@@ -8,7 +8,7 @@ use Rattle.mu_text.specs.Lexemes.{Lexeme, word, mark}
 use Rattle.mu_text.specs.Parts.{Out, found, stopped, taken, Begins}
 use Rattle.mu_text.proofs.Exact.{Exact, Answered}
 use Rattle.mu_text.proofs.Simple.{Any}
-use Rattle.mu_command.specs.Words.{ended_by, goes_on, read_words}
+use Rattle.mu_command.specs.Words.{read_words}
 
 -- plain words which, behind those before them and with one blank between each two, are a text for the value
 abbrev pub SomeWords : {A : Type 0} → (List ℕ → Option A) → List ℕ → List Lexeme → A → Type 0
@@ -57,10 +57,6 @@ module _ {A : Type 0} (lookup : List ℕ → Option A) (is_front : List ℕ → 
   one_more : (front text : List ℕ) (ts : List Lexeme) (x : A) → SomeWords lookup (lengthened front text) ts x → SomeWords lookup front (word Plain text ∷ ts) x
   one_more front text ts x g =
       (text, g.0 ∷ g.1, ap (λ l. word Plain text ∷ l) g.2, ap lookup (sym (assoc front text (join_with_byte 32 (g.0 ∷ g.1)))) ∙ g.3)
-
-  ReadsWords : List ℕ → List Lexeme → Out A → Type 0
-  unfolding read
-  ReadsWords front ts o = Answered (read front) (SomeWords lookup front) ts o
 
   stops : (front : List ℕ) (T : Lexeme) (rest : List Lexeme) → HasText lookup front → ((other : List Lexeme) → read front (T ∷ other) ≡ stopped (T ∷ other))
       → Answered (read front) (SomeWords lookup front) (T ∷ rest) (stopped (T ∷ rest))

@@ -63,7 +63,9 @@ fn form_ended(front: &[u8], reader: &Reader) -> Option<Form>
     ensures { result ≡ first_as (ended_by named front.now) reader.now }
 {
     match reader.peek() {
-        Some(Sort::Word(Word::Plain)) => forms().find_behind(front, reader.bytes()).and_then(numbered),
+        Some(Sort::Word(Word::Plain)) => forms()
+            .find_behind(front, reader.bytes())
+            .and_then(numbered),
         _ => None,
     }
 }
