@@ -1,7 +1,7 @@
 -- The words of a form, and the parts that follow them.
 use Rattle.std.proofs.Common.{◌≡◌, ◌∙◌, ap, sym, refl}
-use Rattle.std.specs.Prelude.{ℕ, List, [], ◌∷◌, ◌++◌, Some, Result, Ok, Err, true, false, if◌then◌else◌, option_and_then}
-use Rattle.mu_tables.specs.Words.{lengthened, number_of, some_begins}
+use Rattle.std.specs.Prelude.{ℕ, List, [], ◌∷◌, ◌++◌, Some, Result, Ok, Err, Bool, true, false, if◌then◌else◌, ◌&&◌, None, option_and_then}
+use Rattle.mu_tables.specs.Words.{is_bare, lengthened, number_behind, number_of, some_begins}
 use Rattle.mu_tables.specs.Tables.{the_forms}
 use Rattle.mu_grammar.specs.declared.excess.Excess.{Excess}
 use Rattle.mu_grammar.specs.declared.fault.PartFault.{PartFault}
@@ -98,9 +98,13 @@ unfolding read_parts
 makes form k c row e = record { value = row.value; is = row.is; stands = ((k, row.stands, e), row.raises) }
 
 -- the form whose words the first token ends, where this is a plain word
-pub plain_ends : (front : List ℕ) (ts : List Lexeme) → first_sort ts ≡ Some (sort.Word Plain) → first_as (ended_by named front) ts ≡ option_and_then numbered (number_of (front ++ first_bytes ts) the_forms)
+pub plain_ends : (front : List ℕ) (ts : List Lexeme) → first_sort ts ≡ Some (sort.Word Plain) → first_as (ended_by named front) ts ≡ option_and_then numbered (number_behind front (first_bytes ts) the_forms)
 plain_ends front [] e = cc
-plain_ends front (word Plain text ∷ rest) e = refl
+plain_ends front (word Plain text ∷ rest) e = at (is_bare text)
+  where
+    at : (bare : Bool) → (if bare then named (front ++ text) else None) ≡ option_and_then numbered (if bare then number_of (front ++ text) the_forms else None)
+    at true = refl
+    at false = refl
 plain_ends front (word Dotted text ∷ rest) e = cc
 plain_ends front (word True text ∷ rest) e = cc
 plain_ends front (word Meta text ∷ rest) e = cc
@@ -108,7 +112,7 @@ plain_ends front (word Place text ∷ rest) e = cc
 plain_ends front (mark m ∷ rest) e = cc
 
 -- whether some form goes on with the first token, where this is a plain word
-pub plain_goes_on : (front : List ℕ) (ts : List Lexeme) → first_sort ts ≡ Some (sort.Word Plain) → starts (goes_on is_front front) ts ≡ some_begins (lengthened front (first_bytes ts)) the_forms
+pub plain_goes_on : (front : List ℕ) (ts : List Lexeme) → first_sort ts ≡ Some (sort.Word Plain) → starts (goes_on is_front front) ts ≡ (is_bare (first_bytes ts) && some_begins (lengthened front (first_bytes ts)) the_forms)
 plain_goes_on front [] e = cc
 plain_goes_on front (word Plain text ∷ rest) e = refl
 plain_goes_on front (word Dotted text ∷ rest) e = cc

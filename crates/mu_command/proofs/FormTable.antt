@@ -1,15 +1,20 @@
 -- The table of the words of forms.
 use Rattle.std.proofs.Common.{◌≡◌, ℕ, Bool, true, false, List, [], ◌∷◌, ◌++◌, Option, Some, None, refl, ap, sym, ◌∙◌}
-use Rattle.std.specs.Prelude.{◌==◌, if◌then◌else◌, not, is_some, find, option_and_then}
+use Rattle.std.specs.Prelude.{◌==◌, if◌then◌else◌, not, is_some, find, option_and_then, map}
 use Rattle.std.specs.List.{list_all, join_with_byte}
+use Rattle.std.specs.Str.{bytes_eq}
+use Rattle.std.proofs.lemmas.List.Splits.{join_with_byte-slice_split}
+use Rattle.std.proofs.lemmas.Slice.Eq.{bytes_eq-Decides}
 use Rattle.std.proofs.lemmas.Bool.Decides.{Decides-eqb}
-use Rattle.mu_tables.specs.Words.{number_of, some_begins}
+use Rattle.mu_tables.specs.Words.{number_of, some_begins, text_of}
 use Rattle.mu_tables.specs.Tables.{the_forms}
 use Rattle.mu_tables.proofs.Fronts.{found_holds, begins_where_found, found_where_begins}
-use Rattle.mu_grammar.specs.Lexemes.{Lexeme}
+use Rattle.mu_grammar.specs.declared.symbol.Word.TheVariants.{Plain}
+use Rattle.mu_grammar.specs.Lexemes.{Lexeme, word}
 use Rattle.mu_command.specs.declared.forms.Form.{Form}
 use Rattle.mu_command.specs.declared.forms.Form.TheVariants.{Theory}
-use Rattle.mu_command.specs.Forms.{forms, number, numbered, named, is_front, FormWords}
+use Rattle.mu_command.specs.Forms.{forms, number, numbered, named, is_front, words, FormWords, FormsHaveWords}
+use Rattle.mu_command.proofs.Bare.{AreBare, parts_of, parts_joined, cut}
 use Rattle.mu_command.proofs.Words.{SomeWords, HasText}
 
 -- each form is found by its number
@@ -64,9 +69,39 @@ form_ends text form e =
     turned true i = cc
     turned false i = refl
 
+-- each text of the table is found by its number
+each_text : list_all (λ row. bytes_eq (text_of row.1 the_forms) row.0) the_forms ≡ true
+each_text = refl
+
+-- and each form by the text of its number
+number_text : (form : Form) → number_of (text_of (number form) the_forms) the_forms ≡ Some (number form)
+number_text Theory = refl
+number_text _ = refl
+
+have_words : (form : Form) → number_of (join_with_byte 32 (words form)) the_forms ≡ Some (number form)
+have_words form = ap (λ text. number_of text the_forms) (join_with_byte-slice_split 32 (text_of (number form) the_forms)) ∙ number_text form
+
+pub forms_have_words : FormsHaveWords
+unfolding FormsHaveWords
+forms_have_words = have_words
+
+-- bare texts that are joined to the text of a form are its words
+words_joined : (text : List ℕ) (texts : List (List ℕ)) (form : Form) → AreBare (text ∷ texts) → named (join_with_byte 32 (text ∷ texts)) ≡ Some form → text ∷ texts ≡ words form
+words_joined text texts form bare e =
+    let joined = join_with_byte 32 (text ∷ texts) in
+    let same = (bytes_eq-Decides (text_of (number form) the_forms) joined).0 (found_holds (λ t n. bytes_eq (text_of n the_forms) t) the_forms joined (number form) each_text (number_named joined form e)) in
+    sym (ap parts_of same ∙ parts_joined text texts bare)
+
 pub to_form_words : (ts : List Lexeme) (form : Form) → SomeWords named [] ts form → FormWords ts form
-to_form_words ts form g = (g.0 ∷ g.1, g.2, number_named (join_with_byte 32 (g.0 ∷ g.1)) form g.3)
+to_form_words ts form g = g.are ∙ ap (map (word Plain)) (words_joined g.first g.others form g.bare g.text)
 
 pub from_form_words : (ts : List Lexeme) (form : Form) → FormWords ts form → SomeWords named [] ts form
-from_form_words ts form ([], e, i) = cc
-from_form_words ts form (text ∷ texts, e, i) = (text, texts, e, named_number (join_with_byte 32 (text ∷ texts)) form i)
+from_form_words ts form e =
+    let parts = cut (text_of (number form) the_forms) in
+    record {
+      first = parts.0;
+      others = parts.1;
+      bare = parts.3;
+      are = e ∙ ap (map (word Plain)) parts.2;
+      text = ap (λ texts. named (join_with_byte 32 texts)) (sym parts.2) ∙ named_number (join_with_byte 32 (words form)) form (have_words form);
+    }

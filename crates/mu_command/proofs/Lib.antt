@@ -1,5 +1,5 @@
+pub mod Bare
 pub mod Exact
-pub mod FormLaw
 pub mod FormLemmas
 pub mod FormTable
 pub mod Lines

@@ -45,7 +45,7 @@ undotted text spelled none =
     subst IsPlain (join_with_byte-slice_split 46 text) (one_segment (segments text) size (and_parts (list_all is_segment (segments text)) (nat_le (length (segments text)) 3) spelled).0)
 
 -- where the token is a plain name, this has one segment
-abbrev pub IsPlainItem : Lexeme → Type 0
+abbrev IsPlainItem : Lexeme → Type 0
 IsPlainItem T = (text : List ℕ) → plain_name_of T ≡ Some text → IsPlain text
 
 moved : (own text : List ℕ) → Some own ≡ Some text → IsPlain own → IsPlain text
@@ -88,7 +88,7 @@ token_plain : (line : List ℕ) (token : Token) → IsTokenOf line token → IsP
 unfolding item
 token_plain line token is = plain_as token.sort (text_of line token) is.name
 
-pub tokens_plain : (line : List ℕ) (ts : List Token) → AllByRecursion (IsTokenOf line) ts → AllByRecursion IsPlainItem (items line ts)
+tokens_plain : (line : List ℕ) (ts : List Token) → AllByRecursion (IsTokenOf line) ts → AllByRecursion IsPlainItem (items line ts)
 tokens_plain line [] is = tt
 tokens_plain line (token ∷ ts) is = (token_plain line token is.0, tokens_plain line ts is.1)
 

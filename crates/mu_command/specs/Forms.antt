@@ -38,17 +38,17 @@ named text = option_and_then numbered (number_of text the_forms)
 abbrev pub is_front : List ℕ → Bool
 is_front front = some_begins front the_forms
 
--- the tokens are plain words, which with one blank between each two are the text of the form's row in the table
-abbrev pub FormWords : List Lexeme → Form → Type 0
-FormWords ts form = (texts : List (List ℕ)) × (ts ≡ map (word Plain) texts) × (number_of (join_with_byte 32 texts) the_forms ≡ Some (number form))
-
 -- the words of the form, which are the parts between the blanks in the text of its row
 abbrev pub words : Form → List (List ℕ)
 words form = slice_split (λ byte. byte == 32) (text_of (number form) the_forms)
 
--- the law of the words of forms: at any place of a line, the tokens of a form are its words
-unfoldable pub FormsAreWords : Type 0
-FormsAreWords = (line : List ℕ) (before ts after : List Lexeme) (form : Form) → items_of line ≡ before ++ (ts ++ after) → FormWords ts form ↔ (ts ≡ map (word Plain) (words form))
+-- with one blank between each two, the words of each form are the text of its row in the table
+unfoldable pub FormsHaveWords : Type 0
+FormsHaveWords = (form : Form) → number_of (join_with_byte 32 (words form)) the_forms ≡ Some (number form)
+
+-- the tokens are the words of the form
+abbrev pub FormWords : List Lexeme → Form → Type 0
+FormWords ts form = ts ≡ map (word Plain) (words form)
 
 -- reads the words of a form
 unfoldable pub read_form : List Lexeme → Out Form

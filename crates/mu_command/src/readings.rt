@@ -1,7 +1,7 @@
 ghost use Rattle.std.specs.Prelude.{◌≡◌, ◌-◌, ◌<◌, ◌^◌, length, IfOk};
 ghost use Rattle.mu_command.specs.declared.readings.Reading.TheVariants as Reading;
 ghost use Rattle.mu_grammar.specs.Texts.{AreWithin, column};
-ghost use Rattle.mu_command.specs.Forms.{FormsAreWords};
+ghost use Rattle.mu_command.specs.Forms.{FormsHaveWords};
 ghost use Rattle.mu_command.specs.Readings.{ReadingIsExact, first_limit, or_text, reading_of, within_limits};
 ghost use Rattle.mu_command.specs.Canonical.{is_long};
 
@@ -33,12 +33,12 @@ pub enum Reading {
 /// # Errors
 ///
 /// `NoMemory`, at any line.
-#[tactic(auto, using(crate::proofs::Lines::reading_is_exact, crate::proofs::FormLaw::forms_are_words, crate::proofs::Lines::read_value, mu_text::proofs::Lines::all_within), unfolding(crate::specs::Readings::reading_of))]
+#[tactic(auto, using(crate::proofs::Lines::reading_is_exact, crate::proofs::FormTable::forms_have_words, crate::proofs::Lines::read_value, mu_text::proofs::Lines::all_within), unfolding(crate::specs::Readings::reading_of))]
 pub fn read(alloc: Global, line: &[u8]) -> Result<Reading, NoMemory>
     requires { length line.now < 2 ^ 31 }
     ensures value { IfOk result (λ reading. reading ≡ reading_of line.now) }
     ensures law { ReadingIsExact }
-    ensures words { FormsAreWords }
+    ensures words { FormsHaveWords }
 {
     let tokens = Tokens::read(alloc, line)?;
     let mut reader = Reader::new(line, tokens.items());

@@ -1,7 +1,7 @@
 -- Texts with their numbers: how they are found, and their order.
-use Rattle.std.specs.Prelude.{◌≡◌, ◌≢◌, ℕ, List, [], ◌∷◌, Option, Some, None, if◌then◌else◌, Bool, true, false, ◌&&◌, not, nat_lt, ◌++◌, map}
+use Rattle.std.specs.Prelude.{◌≡◌, ◌≢◌, ℕ, List, [], ◌∷◌, Option, Some, None, if◌then◌else◌, Bool, true, false, ◌&&◌, ◌==◌, not, nat_lt, ◌++◌, map}
 use Rattle.std.specs.Bool.{nat_eq}
-use Rattle.std.specs.List.{list_any, starts_with}
+use Rattle.std.specs.List.{list_all, list_any, starts_with}
 use Rattle.std.specs.Str.{bytes_eq}
 use Rattle.std.specs.Borrow.{Bor}
 use Rattle.mu_tables.specs.declared.words.Row.{Row}
@@ -19,6 +19,14 @@ number_of text (row ∷ rows) = if bytes_eq row.0 text then Some row.1 else numb
 abbrev pub some_begins : List ℕ → List (List ℕ × ℕ) → Bool
 some_begins front [] = false
 some_begins front (row ∷ rows) = if starts_with nat_eq row.0 front then true else some_begins front rows
+
+-- no byte of the word is a blank
+abbrev pub is_bare : List ℕ → Bool
+is_bare text = list_all (λ byte. not (byte == 32)) text
+
+-- the number of the first row whose text is the word behind the front
+abbrev pub number_behind : List ℕ → List ℕ → List (List ℕ × ℕ) → Option ℕ
+number_behind front text rows = if is_bare text then number_of (front ++ text) rows else None
 
 -- the front, the word behind it, and a blank
 abbrev pub lengthened : List ℕ → List ℕ → List ℕ

@@ -80,6 +80,8 @@ mod tests {
     fn finds_rows(rt: HostRuntime) {
         assert!(rt; forms().find(b"cite") == Some(7));
         assert!(rt; forms().find(b"cites").is_none());
+        assert!(rt; forms().find_behind(b"show ", b"rule") == Some(9));
+        assert!(rt; forms().lengthened(b"", b"show").is_some());
         assert!(rt; operators().by_text(b"=>").map(|op| op.side) == Some(Side::Right));
     }
 }

@@ -1,8 +1,8 @@
-ghost use Rattle.std.specs.Prelude.{◌≡◌, ◌++◌, length, IsTrue, IfSome, is_some};
+ghost use Rattle.std.specs.Prelude.{◌≡◌, ◌++◌, ◌&&◌, length, IsTrue, IfSome, is_some};
 ghost use Rattle.std.specs.Bool.{nat_eq};
 ghost use Rattle.std.specs.List.{starts_with};
 ghost use Rattle.std.specs.Str.{bytes_eq};
-ghost use Rattle.mu_tables.specs.Words.{IsBehind, are_words, lengthened, number_of, rows_of, some_begins, word_of};
+ghost use Rattle.mu_tables.specs.Words.{IsBehind, are_words, is_bare, lengthened, number_behind, number_of, rows_of, some_begins, word_of};
 
 /// A text and its number.
 #[derive(Clone, Copy, Debug)]
@@ -27,18 +27,24 @@ impl<const N: usize> Words<N> {
         find_number(self.rows, text)
     }
 
-    /// The number of the text that is this word behind a front; none where no row has it.
+    /// The number of the text that is this word behind a front; none where no row has it, as where a blank is in the word.
     pub fn find_behind(&self, front: &[u8], word: &[u8]) -> Option<u8>
-        ensures { result ≡ number_of (front.now ++ word.now) (rows_of self.now.rows.now) }
+        ensures { result ≡ number_behind front.now word.now (rows_of self.now.rows.now) }
     {
+        if !is_bare(word) {
+            return None;
+        }
         find_joined(self.rows, front, word)
     }
 
-    /// The front, this word behind it and a blank; none where no row's text begins so.
+    /// The front, this word behind it and a blank; none where no row's text begins so, or a blank is in the word.
     pub fn lengthened(&self, front: &[u8], word: &[u8]) -> Option<&'static [u8]>
         ensures front { IfSome result (λ longer. longer.now ≡ lengthened front.now word.now) }
-        ensures is_some { is_some result ≡ some_begins (lengthened front.now word.now) (rows_of self.now.rows.now) }
+        ensures is_some { is_some result ≡ (is_bare word.now && some_begins (lengthened front.now word.now) (rows_of self.now.rows.now)) }
     {
+        if !is_bare(word) {
+            return None;
+        }
         find_front(self.rows, front, word)
     }
 
@@ -70,6 +76,13 @@ fn find_word(rows: &[Row], number: u8) -> Option<&'static str>
         }
     }
     None
+}
+
+/// Whether no byte of the word is a blank.
+fn is_bare(word: &[u8]) -> bool
+    ensures { result ≡ is_bare word.now }
+{
+    word.iter().all(|byte| *byte != b' ')
 }
 
 fn find_joined(rows: &[Row], front: &[u8], word: &[u8]) -> Option<u8>
