@@ -86,7 +86,7 @@ fn add_rule(
     page.extend_from_slice(status.word().as_bytes())?;
     page.extend_from_slice(b" : ")?;
     mu_print::claim(page, &statement.claim)?;
-    page.push(b'\n')
+    page.extend_from_slice(b"\n")
 }
 
 /// Adds a line for each proof of a rule.
@@ -154,7 +154,7 @@ fn add_fault(page: &mut Vec<u8>, fault: &Fault) -> Result<(), AllocError>
     page.extend_from_slice(fault.label.bytes())?;
     page.push(b' ')?;
     page.extend_from_slice(cause_word(fault.cause))?;
-    page.push(b'\n')
+    page.extend_from_slice(b"\n")
 }
 
 /// The word for a cause.

@@ -337,8 +337,8 @@ refused syntax 8
 refused syntax 15
 > box r1 m b in root : p
 refused syntax 1
-> show rule a
-refused syntax 1
+> show theory a
+refused syntax 6
 > ; theory v
 refused syntax 1
 > aaaaaaaaaaaaaaaaaaaaaaaaaaaaaaaaaaaaaaaaaaaaaaaaaaaaaaaaaaaaaaaaa b
