@@ -39,7 +39,7 @@ impl Model for Name {
 }
 
 /// Why a text is no name.
-#[derive(Clone, Copy, Debug, PartialEq, Eq)]
+#[derive(Clone, Copy, Debug)]
 pub enum NameFault {
     /// It is not one to three segments joined by dots.
     Malformed,
