@@ -2,7 +2,7 @@ use mu_proof::ProofFault;
 use mu_tree::{CountWord, NoMemory, Refusal};
 
 /// Why an edit was not carried out.
-#[derive(Debug, Drop)]
+#[derive(Drop)]
 pub enum EditFault {
     /// It is refused.
     Refused(Refusal),

@@ -7,7 +7,7 @@ use mu_tree::{Duplicate, Name, NoMemory, Sequence, Why};
 use std::alloc::Global;
 
 /// What a proof cites. Rules and morphisms have names apart from each other.
-#[derive(Debug, Drop, PartialEq, Eq)]
+#[derive(Drop)]
 pub enum Cited {
     Rule(Name),
     /// The morphism that translates a rule.

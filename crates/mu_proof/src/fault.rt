@@ -2,7 +2,7 @@ use mu_tree::{Name, NoMemory};
 use std::alloc::{AllocError, AllocFailed};
 
 /// Why an edit of a proof is refused.
-#[derive(Debug, Drop, PartialEq, Eq)]
+#[derive(Drop)]
 pub enum ProofFault {
     /// The proof has no block, item or line of this name where it must have one.
     Unknown(Name),

@@ -7,7 +7,7 @@ use std::alloc::Global;
 use std::mem;
 
 /// A step of a proof.
-#[derive(Debug, Drop)]
+#[derive(Drop)]
 pub enum Item {
     /// An expression that is claimed to hold.
     Line {

@@ -19,7 +19,7 @@ const ROOT: &[u8] = b"root";
 /// A proof of a rule, which may be unfinished or wrong: its items, in order.
 ///
 /// Contracts see the list of its items. They are lines with labels that differ, none of them `root`, and at most 4,096.
-#[derive(Debug, Drop)]
+#[derive(Drop)]
 pub struct Proof {
     items: Vec<Item>,
 }

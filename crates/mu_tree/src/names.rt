@@ -39,7 +39,7 @@ impl Model for Name {
 }
 
 /// Why a text is no name.
-#[derive(Clone, Copy, Debug, PartialEq, Eq)]
+#[derive(Clone, Copy, Debug)]
 pub enum NameFault {
     /// It is not one to three segments joined by dots.
     Malformed,
@@ -201,46 +201,5 @@ impl Sequence<Name> {
         ensures { result ≡ is_among self.now name.now }
     {
         self.items().contains(name)
-    }
-}
-
-#[cfg(test)]
-mod tests {
-    use super::*;
-    use std::test::Fail;
-
-    #[test]
-    fn reads_names_as_they_are_spelled(rt: HostRuntime) -> Result<(), Fail> {
-        let alloc = rt.alloc();
-        let long = [b'a'; 65];
-        for text in [b"a.b".as_slice(), b"and", b"T_1.x.y2", &long[..64]] {
-            assert!(rt; Name::read(alloc, text)?.bytes() == text);
-        }
-        for text in [
-            b"".as_slice(),
-            b".",
-            b"a..b",
-            b"a.",
-            b"_a",
-            b"a.1",
-            b"a b",
-            b"a.b.c.d",
-        ] {
-            assert!(rt; Name::read(alloc, text) == Err(NameFault::Malformed));
-        }
-        assert!(rt; Name::read(alloc, &long) == Err(NameFault::SegmentTooLong));
-        Ok(())
-    }
-
-    #[test]
-    fn copies_and_compares(rt: HostRuntime) -> Result<(), Fail> {
-        let alloc = rt.alloc();
-        let name = Name::read(alloc, b"a.b")?;
-        assert!(rt; name.copy(alloc)? == name);
-        assert!(rt; !name.is_plain());
-        assert!(rt; Name::read(alloc, b"a")?.is_plain());
-        assert!(rt; Name::read(alloc, b"a.b.c")? > name);
-        assert!(rt; Name::read(alloc, b"Z")? < name);
-        Ok(())
     }
 }

@@ -1,7 +1,7 @@
 use crate::names::Name;
 
 /// What a store or a proof may have too many of.
-#[derive(Clone, Copy, Debug, PartialEq, Eq)]
+#[derive(Clone, Copy, Debug)]
 pub enum CountWord {
     /// Items of a proof.
     Items,

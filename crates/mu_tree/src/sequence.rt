@@ -138,18 +138,3 @@ fn make_room<T>(items: &mut Vec<T>) -> Result<(), NoMemory>
     }
     Ok(())
 }
-
-#[cfg(test)]
-mod tests {
-    use super::*;
-    use std::test::Fail;
-
-    #[test]
-    fn grows_at_the_end(rt: HostRuntime) -> Result<(), Fail> {
-        let mut bytes = Bytes::new(rt.alloc());
-        bytes.push(1)?;
-        bytes.push(2)?;
-        assert!(rt; bytes.items() == [1, 2].as_slice());
-        Ok(())
-    }
-}

@@ -177,33 +177,3 @@ impl NameSet {
         self.marks.put(name, ())
     }
 }
-
-#[cfg(test)]
-mod tests {
-    use super::*;
-    use std::test::Fail;
-
-    #[test]
-    fn keeps_the_last_value(rt: HostRuntime) -> Result<(), Fail> {
-        let alloc = rt.alloc();
-        let mut table = Table::new(alloc);
-        let name = Name::read(alloc, b"a")?;
-        assert!(rt; !table.has(&name));
-        table.put(name.copy(alloc)?, 1u8)?;
-        table.put(name.copy(alloc)?, 2u8)?;
-        assert!(rt; table.get(&name).copied() == Some(2));
-        let mut other = 3u8;
-        assert!(rt; table.swap(&name, &mut other));
-        assert!(rt; table.get(&name).copied() == Some(3));
-        assert!(rt; other == 2);
-        assert!(rt; !table.swap(&Name::read(alloc, b"b")?, &mut other));
-        table.put(Name::read(alloc, b"B")?, 4u8)?;
-        let names = table.names(alloc)?;
-        assert!(rt; names.len() == 2);
-        assert!(rt; names.items()[0].bytes() == b"B".as_slice());
-        let mut set = NameSet::new(alloc);
-        set.add(name.copy(alloc)?)?;
-        assert!(rt; set.has(&name));
-        Ok(())
-    }
-}
