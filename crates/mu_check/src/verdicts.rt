@@ -18,7 +18,7 @@ use crate::environments::{Environment, add_item, leave, start, within};
 use crate::fact::{Fact, is_equal};
 use crate::facts::{closed, plain_fact};
 use crate::justifications::line_cause;
-use crate::lines::lines_of;
+use crate::lines::{PlacedLine, lines_of};
 use crate::metas::Metas;
 use mu_decl::{Context, Statement, claim_occurrences};
 use mu_proof::{Item, Proof};
@@ -82,7 +82,12 @@ fn line_fault<C: Context>(
     ensures hyps { OnOk result (environment.new.hyps ≡ environment.old.hyps) }
     ensures after { IfOk result (λ verdict. verdict ≡ None → environment.new ≡ with_item label.now (plain_fact environment.old.scope tree.now) environment.old) }
 {
-    if let Some(cause) = line_cause(alloc, context, allowed, environment, tree, why)? {
+    let line = PlacedLine {
+        allowed,
+        environment,
+        tree,
+    };
+    if let Some(cause) = line_cause(alloc, context, line, why)? {
         return blame(alloc, label, cause);
     }
     let gives = plain_fact(alloc, &environment.scope, tree)?;
