@@ -2,7 +2,7 @@ ghost use Rattle.std.specs.Prelude.{◌≡◌, IfOk, OnOk, map, None, Some};
 ghost use Rattle.std.specs.Option.{option_copied};
 ghost use Rattle.mu_proof.specs.Proofs.{root};
 ghost use Rattle.mu_check.specs.Facts.{plain_fact};
-ghost use Rattle.mu_check.specs.Environments.{Keeps, with_item, within};
+ghost use Rattle.mu_check.specs.Environments.{Keeps, with_item, within, left};
 ghost use Rattle.mu_check.specs.Justifications.{line_cause};
 ghost use Rattle.mu_check.specs.Blocks.{block_cause};
 ghost use Rattle.mu_check.specs.Judgements.{VerdictsAreExact};
@@ -12,10 +12,10 @@ ghost use Rattle.mu_tables.specs.Work.{raised};
 ghost use Rattle.mu_check.specs.Lines.{lines_of};
 
 use crate::allowed::Allowed;
-use crate::blocks::block_cause;
+use crate::blocks::{BlockHead, block_cause};
 use crate::cause::{Cause, Fault, Verdict};
-use crate::environments::{Environment, add_item, leave, start, within};
-use crate::fact::{Fact, is_equal};
+use crate::environments::{Environment, Extent, add_item, extent_of, leave, start, within};
+use crate::fact::{Fact, difference};
 use crate::facts::{closed, plain_fact};
 use crate::justifications::line_cause;
 use crate::lines::{PlacedLine, lines_of};
@@ -23,7 +23,7 @@ use crate::metas::Metas;
 use mu_decl::{Context, Statement, claim_occurrences};
 use mu_proof::{Item, Proof};
 use mu_tables::Work;
-use mu_tree::{Name, NoMemory, Sequence, Tree, TypedVar, Why};
+use mu_tree::{Name, NoMemory, Sequence, Tree, Why};
 use std::alloc::Global;
 
 fn blame(alloc: Global, label: &Name, cause: Cause) -> Result<Verdict, NoMemory>
@@ -101,50 +101,39 @@ fn open_block<C: Context>(
     context: &C,
     allowed: &Allowed,
     environment: &mut Environment,
-    label: &Name,
-    vars: &[TypedVar],
-    assumptions: &[Tree],
+    head: BlockHead,
 ) -> Result<Verdict, NoMemory>
-    ensures fault { IfOk result (λ verdict. verdict ≡ labelled label.now (block_cause (C.world context.now) allowed.now environment.old.scope vars.now assumptions.now)) }
+    ensures fault { IfOk result (λ verdict. verdict ≡ labelled head.entry.label.now (block_cause (C.world context.now) allowed.now environment.old.scope head.entry.vars.now head.entry.assumptions.now)) }
     ensures hyps { OnOk result (environment.new.hyps ≡ environment.old.hyps) }
-    ensures entered { IfOk result (λ verdict. verdict ≡ None → environment.new ≡ within label.now vars.now assumptions.now environment.old) }
+    ensures entered { IfOk result (λ verdict. verdict ≡ None → environment.new ≡ within head.entry.label.now head.entry.vars.now head.entry.assumptions.now environment.old) }
 {
-    match block_cause(
-        alloc,
-        context,
-        allowed,
-        &environment.scope,
-        vars,
-        assumptions,
-    )? {
-        Some(cause) => blame(alloc, label, cause),
-        None => {
-            within(alloc, environment, label, vars, assumptions)?;
-            Ok(None)
-        }
+    if let Some(cause) = block_cause(alloc, context, allowed, &environment.scope, head)? {
+        return blame(alloc, head.label, cause);
     }
+    within(alloc, environment, head)?;
+    Ok(None)
 }
 
-/// Adds a block that was left, where it ends with a line.
+/// Leaves a block, which may be cited from now on if it ends with a line.
 fn close_block(
     alloc: Global,
     environment: &mut Environment,
-    label: &Name,
-    vars: &[TypedVar],
-    assumptions: &[Tree],
+    outer: Extent,
+    head: BlockHead,
     last: Option<&Tree>,
 ) -> Result<Verdict, NoMemory>
-    ensures fault { IfOk result (λ verdict. verdict ≡ labelled label.now (ending_cause (option_copied last.entry))) }
+    ensures fault { IfOk result (λ verdict. verdict ≡ labelled head.entry.label.now (ending_cause (option_copied last.entry))) }
     ensures hyps { OnOk result (environment.new.hyps ≡ environment.old.hyps) }
-    ensures after { IfOk result (λ verdict. verdict ≡ None → environment.new ≡ with_block label.now vars.now assumptions.now (option_copied last.entry) environment.old) }
+    ensures after { IfOk result (λ verdict. verdict ≡ None → environment.new ≡ with_block head.entry.label.now head.entry.vars.now head.entry.assumptions.now (option_copied last.entry) (left outer environment.old)) }
 {
+    leave(environment, outer);
     match last {
         Some(last) => {
-            let gives = closed(alloc, &environment.scope, vars, assumptions, last)?;
-            add_item(alloc, environment, label, gives)?;
+            let gives = closed(alloc, &environment.scope, head.vars, head.assumptions, last)?;
+            add_item(alloc, environment, head.label, gives)?;
             Ok(None)
         }
-        None => blame(alloc, label, Cause::Unfinished),
+        None => blame(alloc, head.label, Cause::Unfinished),
     }
 }
 
@@ -173,40 +162,22 @@ fn item_fault<C: Context>(
             assumptions,
             items,
         } => {
-            let scope = environment.scope.len();
-            let blocks = environment.blocks.len();
-            let known = environment.items.len();
             let vars = vars.items();
             let assumptions = assumptions.as_slice();
-            if let Some(found) = open_block(
-                alloc,
-                context,
-                allowed,
-                environment,
+            let head = BlockHead {
                 label,
                 vars,
                 assumptions,
-            )? {
+            };
+            let items = items.as_slice();
+            let outer = extent_of(environment);
+            if let Some(found) = open_block(alloc, context, allowed, environment, head)? {
                 return Ok(Some(found));
             }
-            if let Some(found) = items_fault(
-                alloc,
-                context,
-                allowed,
-                environment,
-                items.as_slice(),
-            )? {
+            if let Some(found) = items_fault(alloc, context, allowed, environment, items)? {
                 return Ok(Some(found));
             }
-            leave(environment, scope, blocks, known);
-            close_block(
-                alloc,
-                environment,
-                label,
-                vars,
-                assumptions,
-                last_line(items.as_slice()),
-            )
+            close_block(alloc, environment, outer, head, last_line(items))
         }
     }
 }
@@ -240,17 +211,12 @@ fn conclusion_cause(
 ) -> Result<Option<Cause>, NoMemory>
     ensures { IfOk result (λ cause. cause ≡ conclusion_cause conclusion.now (option_copied last.entry)) }
 {
-    let last = match last {
-        Some(last) => last,
-        None => return Ok(Some(Cause::Unfinished)),
+    let Some(last) = last else {
+        return Ok(Some(Cause::Unfinished));
     };
     let scope = Sequence::new(alloc);
     let line = plain_fact(alloc, &scope, last)?;
-    if is_equal(&line, conclusion) {
-        Ok(None)
-    } else {
-        Ok(Some(Cause::ConclusionDiffers))
-    }
+    Ok(difference(&line, conclusion))
 }
 
 /// What the proofs of a rule are checked against: its claim, entered once for all of them.
@@ -323,7 +289,12 @@ fn goal_fault<C: Context>(
     ensures fault { IfOk result (λ verdict. verdict ≡ goal_fault (C.world context.now) goal.old items.now) }
     ensures kept { OnOk result (KeepsGoal goal.old goal.new) }
 {
-    leave(&mut goal.environment, 0, 0, 0);
+    let nothing = Extent {
+        scope: 0,
+        blocks: 0,
+        items: 0,
+    };
+    leave(&mut goal.environment, nothing);
     if let Some(found) = items_fault(alloc, context, &goal.allowed, &mut goal.environment, items)? {
         return Ok(Some(found));
     }
