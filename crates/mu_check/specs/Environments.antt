@@ -40,9 +40,13 @@ gives env (reference.Hypothesis n) = nth env.hyps n
 abbrev pub is_accessible : Environment → Ref → Bool
 is_accessible env x = is_some (gives env x)
 
+-- before the first item of a proof, by hypotheses
+abbrev pub starting : List Fact → Environment
+starting hyps = record { scope = []; hyps = hyps; blocks = []; items = [] }
+
 -- before the first item of a proof: the hypotheses of its claim
 abbrev pub start : Claim → Environment
-start claim = record { scope = []; hyps = map hypothesis_fact claim.hyps; blocks = []; items = [] }
+start claim = starting (map hypothesis_fact claim.hyps)
 
 -- after an item that gives this
 abbrev pub with_item : List ℕ → Fact → Environment → Environment

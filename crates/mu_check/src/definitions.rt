@@ -1,5 +1,8 @@
-ghost use Rattle.std.specs.Prelude.{◌≡◌, ◌++◌, IfOk, OnOk, length};
+ghost use Rattle.std.specs.Prelude.{◌≡◌, [], ◌++◌, IfOk, OnOk, length, nat_eq};
 ghost use Rattle.std.specs.Option.{option_copied};
+ghost use Rattle.mu_decl.specs.Formation.{occurrences};
+ghost use Rattle.mu_decl.specs.Nameless.{nameless};
+ghost use Rattle.mu_decl.specs.Unfolding.{delta_of};
 ghost use Rattle.mu_check.specs.declared.fact.Fact.TheVariants as fact;
 ghost use Rattle.mu_check.specs.Definitions.{parameters, body_formed, definition_formed, unfolded_fact, unfolding_cause, defined_cause, definition_cause};
 
@@ -52,14 +55,20 @@ fn body_formed<C: Context>(
     )? {
         return Ok(false);
     }
+    has_no_metas(alloc, context, declared.result, &definition.body)
+}
+
+/// Whether no metavariable is in a tree of this kind.
+fn has_no_metas<C: Context>(
+    alloc: Global,
+    context: &C,
+    kind: Kind,
+    tree: &Tree,
+) -> Result<bool, NoMemory>
+    ensures { IfOk result (λ yes. yes ≡ nat_eq (length (occurrences (C.world context.now) tree.now kind)) 0) }
+{
     let mut found = Sequence::new(alloc);
-    occurrences(
-        alloc,
-        context,
-        declared.result,
-        &definition.body,
-        &mut found,
-    )?;
+    occurrences(alloc, context, kind, tree, &mut found)?;
     Ok(found.len() == 0)
 }
 
@@ -93,11 +102,24 @@ fn unfolded_cause(
 ) -> Result<Option<Cause>, NoMemory>
     ensures { IfOk result (λ cause. cause ≡ unfolding_cause line.entry.environment.now line.entry.tree.now delta.now (Some (fact.Plain tree.now))) }
 {
-    let bound = Names::new(alloc);
-    let bare = enter(alloc, line.tree, &line.environment.scope, &bound)?;
-    let said = unfolded_fact(alloc, delta, &bare)?;
+    let said = unfolded_line(alloc, line, delta)?;
     let wanted = unfolded_fact(alloc, delta, tree)?;
     Ok(difference(&said, &wanted))
+}
+
+/// The tree of a line, unfolded.
+fn unfolded_line(alloc: Global, line: PlacedLine, delta: &DeltaRule) -> Result<Fact, NoMemory>
+    ensures { IfOk result (λ fact. fact ≡ unfolded_fact delta.now (nameless line.entry.environment.now.scope [] line.entry.tree.now)) }
+{
+    let bare = entered_tree(alloc, line)?;
+    unfolded_fact(alloc, delta, &bare)
+}
+
+fn entered_tree(alloc: Global, line: PlacedLine) -> Result<Bare, NoMemory>
+    ensures { IfOk result (λ bare. bare ≡ nameless line.entry.environment.now.scope [] line.entry.tree.now) }
+{
+    let bound = Names::new(alloc);
+    enter(alloc, line.tree, &line.environment.scope, &bound)
 }
 
 /// Line and reference, both unfolded.
@@ -137,6 +159,19 @@ fn defined_cause<C: Context>(
     if !definition_formed(alloc, context, declared, definition)? {
         return Ok(Some(Cause::IllFormedDefinition));
     }
+    given_cause(alloc, line, constant, definition, given)
+}
+
+/// Line and reference, unfolded by a definition.
+fn given_cause(
+    alloc: Global,
+    line: PlacedLine,
+    constant: &Name,
+    definition: &Definition,
+    given: Option<&Fact>,
+) -> Result<Option<Cause>, NoMemory>
+    ensures { IfOk result (λ cause. cause ≡ unfolding_cause line.entry.environment.now line.entry.tree.now (delta_of constant.now definition.now) (option_copied given.entry)) }
+{
     let delta = delta_of(alloc, constant, definition)?;
     let cause = unfolding_cause(alloc, line, &delta, given)?;
     Ok(cause)

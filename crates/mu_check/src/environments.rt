@@ -3,7 +3,7 @@ ghost use Rattle.std.specs.Option.{option_copied, option_map};
 ghost use Rattle.std.specs.List.{list_all};
 ghost use Rattle.std.specs.Cmp.Lexicographic.{pointwise};
 ghost use Rattle.mu_check.specs.Facts.{hypothesis_fact};
-ghost use Rattle.mu_check.specs.Environments.{nth, block_of, gives, is_accessible, start, with_item, within, extent_of, left};
+ghost use Rattle.mu_check.specs.Environments.{nth, block_of, gives, is_accessible, starting, start, with_item, within, extent_of, left};
 
 use crate::blocks::BlockHead;
 use crate::fact::Fact;
@@ -100,12 +100,18 @@ pub fn start(alloc: Global, claim: &Claim) -> Result<Environment, NoMemory>
     for hypothesis in claim.hyps.items() {
         hyps.push(hypothesis_fact(alloc, hypothesis)?)?;
     }
-    Ok(Environment {
+    Ok(starting(alloc, hyps))
+}
+
+fn starting(alloc: Global, hyps: Sequence<Fact>) -> Environment
+    ensures { result ≡ starting hyps }
+{
+    Environment {
         scope: Sequence::new(alloc),
         hyps,
         blocks: Sequence::new(alloc),
         items: KnownItems::new(alloc),
-    })
+    }
 }
 
 /// Adds an item, which may be cited from now on.

@@ -1,7 +1,8 @@
 ghost use Rattle.std.specs.Prelude.{◌≡◌, [], ◌++◌, ◌+◌, IfOk, OnOk, map, nat_eq, length};
 ghost use Rattle.std.specs.Option.{option_copied};
 ghost use Rattle.std.specs.Cmp.Lexicographic.{pointwise};
-ghost use Rattle.mu_check.specs.Hypotheses.{term_typings, opened_fact, gives_this, upshot_cause, plain_cause, terms_formed, sequent_cause, hypothesis_cause};
+ghost use Rattle.mu_decl.specs.Nameless.{nameless};
+ghost use Rattle.mu_check.specs.Hypotheses.{term_typings, wanted, opened_fact, gives_this, upshot_cause, plain_cause, terms_formed, sequent_cause, hypothesis_cause};
 
 use crate::cause::Cause;
 use crate::environments::{Environment, gives};
@@ -83,13 +84,28 @@ fn upshot_cause(
     requires { length terms.now ≡ length types.now }
     ensures { IfOk result (λ cause. cause ≡ upshot_cause line.entry.environment.now line.entry.tree.now refs.now terms.now types.now premises.now upshot.now) }
 {
-    let mut facts = term_typings(alloc, terms.as_slice(), types.as_slice())?;
-    add_opened(alloc, terms, premises.as_slice(), &mut facts)?;
-    if !all_give(line.environment, refs, facts.items()) {
+    if !give_wanted(alloc, line.environment, refs, terms, types, premises)? {
         return Ok(Some(Cause::HypothesisDiffers));
     }
     let upshot = opened_fact(alloc, terms, upshot)?;
     plain_cause(alloc, line, &upshot)
+}
+
+/// Whether the references give what a sequent wants at these terms.
+fn give_wanted(
+    alloc: Global,
+    environment: &Environment,
+    refs: &[Ref],
+    terms: &Bares,
+    types: &Bares,
+    premises: &Bares,
+) -> Result<bool, NoMemory>
+    requires { length terms.now ≡ length types.now }
+    ensures { IfOk result (λ yes. yes ≡ pointwise (gives_this environment.now) refs.now (wanted terms.now types.now premises.now)) }
+{
+    let mut facts = term_typings(alloc, terms.as_slice(), types.as_slice())?;
+    add_opened(alloc, terms, premises.as_slice(), &mut facts)?;
+    Ok(all_give(environment, refs, facts.items()))
 }
 
 fn terms_formed<C: Context>(
@@ -151,10 +167,20 @@ fn sequent_cause<C: Context>(
     if !terms_formed(alloc, context, line, terms)? {
         return Ok(Some(Cause::IllFormedInstance));
     }
-    let bound = Sequence::new(alloc);
-    let terms = enter_all(alloc, terms, &line.environment.scope, &bound)?;
+    let terms = entered_terms(alloc, line.environment, terms)?;
     let cause = upshot_cause(alloc, line, refs, &terms, types, premises, upshot)?;
     Ok(cause)
+}
+
+fn entered_terms(
+    alloc: Global,
+    environment: &Environment,
+    terms: &[Tree],
+) -> Result<Bares, NoMemory>
+    ensures { IfOk result (λ trees. trees ≡ map (nameless environment.now.scope []) terms.now) }
+{
+    let bound = Sequence::new(alloc);
+    enter_all(alloc, terms, &environment.scope, &bound)
 }
 
 /// The first test that a line fails which cites a hypothesis, from the test that it is there on.

@@ -1,10 +1,14 @@
-ghost use Rattle.std.specs.Prelude.{◌≡◌, IfOk, map};
+ghost use Rattle.std.specs.Prelude.{◌≡◌, [], IfOk, map};
 ghost use Rattle.std.specs.Option.{option_copied};
 ghost use Rattle.std.specs.List.{list_all};
 ghost use Rattle.std.specs.Cmp.Lexicographic.{pointwise};
 ghost use Rattle.mu_tree.specs.declared.claim.Kind.TheVariants.{E};
 ghost use Rattle.mu_decl.specs.Formation.{is_formed, occurrences, expression};
+ghost use Rattle.mu_decl.specs.Claims.{claim_occurrences};
 ghost use Rattle.mu_check.specs.Metas.{are_known};
+ghost use Rattle.mu_check.specs.Same.{equal_facts};
+ghost use Rattle.mu_check.specs.Facts.{plain_fact, hypothesis_fact, instantiated_fact, entered};
+ghost use Rattle.mu_check.specs.Instances.{is_instance};
 ghost use Rattle.mu_check.specs.Environments.{is_accessible};
 ghost use Rattle.mu_check.specs.Causes.{meets, concludes, instance_cause, claim_cause, rule_cause, same_cause};
 ghost use Rattle.mu_check.specs.Justifications.{refs_of, citing_cause, why_cause, justified_cause, line_cause};
@@ -13,7 +17,7 @@ use crate::cause::Cause;
 use crate::definitions::definition_cause;
 use crate::environments::{Environment, are_accessible, gives, is_accessible, nth};
 use crate::fact::{Fact, is_instantiated};
-use crate::facts::{entered_all, hypothesis_fact, plain_fact};
+use crate::facts::{entered_all, hypothesis_fact, plain_fact, stated_fact};
 use crate::hypotheses::{hypothesis_cause, plain_cause};
 use crate::instances::is_instance;
 use crate::lines::PlacedLine;
@@ -35,13 +39,22 @@ fn meets(
     ensures { IfOk result (λ yes. yes ≡ meets environment.now given.now reference.now hypothesis.now) }
 {
     match gives(environment, reference) {
-        Some(fact) => {
-            let stated = hypothesis_fact(alloc, hypothesis)?;
-            let yes = is_instantiated(alloc, given, &stated, fact)?;
-            Ok(yes)
-        }
+        Some(fact) => is_hypothesis(alloc, given, hypothesis, fact),
         None => Ok(false),
     }
+}
+
+/// Whether a fact is an instantiated hypothesis.
+fn is_hypothesis(
+    alloc: Global,
+    given: &Abstractions,
+    hypothesis: &Hyp,
+    fact: &Fact,
+) -> Result<bool, NoMemory>
+    ensures { IfOk result (λ yes. yes ≡ equal_facts fact.now (instantiated_fact given.now (hypothesis_fact hypothesis.now))) }
+{
+    let stated = hypothesis_fact(alloc, hypothesis)?;
+    is_instantiated(alloc, given, &stated, fact)
 }
 
 /// Whether there are as many references as hypotheses, and each gives the instantiated hypothesis at its place.
@@ -74,11 +87,21 @@ fn concludes(
 ) -> Result<bool, NoMemory>
     ensures { IfOk result (λ yes. yes ≡ concludes line.entry.environment.now given.now line.entry.tree.now conclusion.now) }
 {
-    let fact = plain_fact(alloc, &line.environment.scope, line.tree)?;
-    let scope = Sequence::new(alloc);
-    let stated = plain_fact(alloc, &scope, conclusion)?;
-    let yes = is_instantiated(alloc, given, &stated, &fact)?;
-    Ok(yes)
+    let said = plain_fact(alloc, &line.environment.scope, line.tree)?;
+    is_conclusion(alloc, given, conclusion, &said)
+}
+
+/// Whether a fact is an instantiated conclusion.
+fn is_conclusion(
+    alloc: Global,
+    given: &Abstractions,
+    conclusion: &Tree,
+    fact: &Fact,
+) -> Result<bool, NoMemory>
+    ensures { IfOk result (λ yes. yes ≡ equal_facts fact.now (instantiated_fact given.now (plain_fact [] conclusion.now))) }
+{
+    let stated = stated_fact(alloc, conclusion)?;
+    is_instantiated(alloc, given, &stated, fact)
 }
 
 fn instance_cause(
@@ -110,16 +133,52 @@ fn claim_cause<C: Context>(
 ) -> Result<Option<Cause>, NoMemory>
     ensures { IfOk result (λ cause. cause ≡ claim_cause (C.world context.now) line.entry.allowed.now line.entry.environment.now line.entry.tree.now refs.now given.now claim.now) }
 {
-    let found = claim_occurrences(alloc, context, claim)?;
-    let all = Metas::new(alloc, found)?;
-    let scope = &line.environment.scope;
-    if !is_instance(alloc, context, line.allowed, scope, &all, given)? {
+    if !is_instance_of_claim(alloc, context, line, given, claim)? {
         return Ok(Some(Cause::IllFormedInstance));
     }
-    let list = entered_all(alloc, scope, given)?;
+    given_cause(alloc, line, refs, given, claim)
+}
+
+/// The metavariables of a claim.
+pub fn metas_of_claim<C: Context>(
+    alloc: Global,
+    context: &C,
+    claim: &Claim,
+) -> Result<Metas, NoMemory>
+    ensures { IfOk result (λ metas. metas ≡ claim_occurrences (C.world context.now) claim.now) }
+{
+    let found = claim_occurrences(alloc, context, claim)?;
+    Metas::new(alloc, found)
+}
+
+/// Whether an instantiation is one of a claim where the line stands.
+fn is_instance_of_claim<C: Context>(
+    alloc: Global,
+    context: &C,
+    line: PlacedLine,
+    given: &[Given],
+    claim: &Claim,
+) -> Result<bool, NoMemory>
+    ensures { IfOk result (λ yes. yes ≡ is_instance (C.world context.now) line.entry.allowed.now line.entry.environment.now.scope (claim_occurrences (C.world context.now) claim.now) given.now) }
+{
+    let all = metas_of_claim(alloc, context, claim)?;
+    let scope = &line.environment.scope;
+    is_instance(alloc, context, line.allowed, scope, &all, given)
+}
+
+/// References and line against a claim, instantiated.
+fn given_cause(
+    alloc: Global,
+    line: PlacedLine,
+    refs: &[Ref],
+    given: &[Given],
+    claim: &Claim,
+) -> Result<Option<Cause>, NoMemory>
+    ensures { IfOk result (λ cause. cause ≡ instance_cause line.entry.environment.now (map (entered line.entry.environment.now.scope) given.now) line.entry.tree.now refs.now claim.now) }
+{
+    let list = entered_all(alloc, &line.environment.scope, given)?;
     let entered = Abstractions::new(alloc, list)?;
-    let cause = instance_cause(alloc, line, &entered, refs, claim)?;
-    Ok(cause)
+    instance_cause(alloc, line, &entered, refs, claim)
 }
 
 /// The first test that a line fails which cites this rule.

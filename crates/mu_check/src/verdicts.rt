@@ -16,14 +16,13 @@ use crate::blocks::{BlockHead, block_cause};
 use crate::cause::{Cause, Fault, Verdict};
 use crate::environments::{Environment, Extent, add_item, extent_of, leave, start, within};
 use crate::fact::{Fact, difference};
-use crate::facts::{closed, plain_fact};
-use crate::justifications::line_cause;
+use crate::facts::{closed, plain_fact, stated_fact};
+use crate::justifications::{line_cause, metas_of_claim};
 use crate::lines::{PlacedLine, lines_of};
-use crate::metas::Metas;
-use mu_decl::{Context, Statement, claim_occurrences};
+use mu_decl::{Context, Statement};
 use mu_proof::{Item, Proof};
 use mu_tables::Work;
-use mu_tree::{Name, NoMemory, Sequence, Tree, Why};
+use mu_tree::{Name, NoMemory, Tree, Why};
 use std::alloc::Global;
 
 fn blame(alloc: Global, label: &Name, cause: Cause) -> Result<Verdict, NoMemory>
@@ -214,9 +213,8 @@ fn conclusion_cause(
     let Some(last) = last else {
         return Ok(Some(Cause::Unfinished));
     };
-    let scope = Sequence::new(alloc);
-    let line = plain_fact(alloc, &scope, last)?;
-    Ok(difference(&line, conclusion))
+    let said = stated_fact(alloc, last)?;
+    Ok(difference(&said, conclusion))
 }
 
 /// What the proofs of a rule are checked against: its claim, entered once for all of them.
@@ -247,18 +245,16 @@ fn allowed_by<C: Context>(
     ensures { IfOk result (λ allowed. allowed ≡ allowed_by (C.world context.now) statement.now) }
 {
     let seen = context.seen(alloc, &statement.theory)?;
-    let found = claim_occurrences(alloc, context, &statement.claim)?;
-    let metas = Metas::new(alloc, found)?;
+    let metas = metas_of_claim(alloc, context, &statement.claim)?;
     Ok(Allowed { seen, metas })
 }
 
 fn goal_by<C: Context>(alloc: Global, context: &C, statement: &Statement) -> Result<Goal, NoMemory>
     ensures { IfOk result (λ goal. goal ≡ goal_by (C.world context.now) statement.now) }
 {
-    let scope = Sequence::new(alloc);
-    let allowed = allowed_by(alloc, context, statement)?;
+    let conclusion = stated_fact(alloc, &statement.claim.conclusion)?;
     let environment = start(alloc, &statement.claim)?;
-    let conclusion = plain_fact(alloc, &scope, &statement.claim.conclusion)?;
+    let allowed = allowed_by(alloc, context, statement)?;
     Ok(Goal {
         allowed,
         environment,
@@ -340,9 +336,9 @@ impl Checker {
         ensures checker { IfOk result (λ checker. IsChecker (C.world context.now) checker) }
         ensures rule { IfOk result (λ checker. checker.rule ≡ rule.now) }
     {
+        let name = rule.copy(alloc)?;
         let goal = goal_of(alloc, context, rule)?;
-        let rule = rule.copy(alloc)?;
-        Ok(Checker { rule, goal })
+        Ok(Checker { rule: name, goal })
     }
 
     /// The verdict on a proof of the rule, in the context that the checker was made in.
