@@ -13,14 +13,14 @@ use mu_tree::{Claim, Name, Names, NoMemory, Ref, Sequence};
 use std::alloc::Global;
 
 /// An item that may be cited, with what it gives.
-#[derive(Debug, Drop)]
+#[derive(Drop)]
 pub struct KnownItem {
     pub label: Name,
     pub gives: Fact,
 }
 
 /// An enclosing block, with its assumptions.
-#[derive(Debug, Drop)]
+#[derive(Drop)]
 pub struct KnownBlock {
     pub label: Name,
     pub assumptions: Sequence<Fact>,

@@ -10,7 +10,7 @@ use mu_tree::NoMemory;
 use std::alloc::Global;
 
 /// What a reference gives.
-#[derive(Debug, Drop)]
+#[derive(Drop)]
 pub enum Fact {
     /// A nameless tree.
     Plain(Bare),

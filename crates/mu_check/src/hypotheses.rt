@@ -1,7 +1,9 @@
-ghost use Rattle.std.specs.Prelude.{◌≡◌, [], ◌++◌, ◌+◌, IfOk, OnOk, map, nat_eq, length};
+ghost use Rattle.std.specs.Prelude.{◌≡◌, [], ◌∷◌, ◌++◌, ◌+◌, IfOk, OnOk, map, nat_eq, length};
 ghost use Rattle.std.specs.Option.{option_copied};
 ghost use Rattle.std.specs.Cmp.Lexicographic.{pointwise};
 ghost use Rattle.mu_decl.specs.Nameless.{nameless};
+ghost use Rattle.mu_decl.specs.Opening.{opened};
+ghost use Rattle.mu_check.specs.Facts.{typing_fact};
 ghost use Rattle.mu_check.specs.Hypotheses.{term_typings, wanted, opened_fact, gives_this, upshot_cause, plain_cause, terms_formed, sequent_cause, hypothesis_cause};
 
 use crate::cause::Cause;
@@ -42,10 +44,26 @@ fn term_typings(alloc: Global, terms: &[Bare], types: &[Bare]) -> Result<Sequenc
     let mut before = Items::new(alloc);
     let mut facts = Sequence::new(alloc);
     for i in 0..terms.len() {
-        facts.push(typing_fact(alloc, &terms[i], opened(alloc, &types[i], &before)?)?)?;
-        before.push(terms[i].copy(alloc)?)?;
+        add_typing(alloc, &mut before, &terms[i], &types[i], &mut facts)?;
     }
     Ok(facts)
+}
+
+/// Adds the typing of a term, and the term to those before the next one.
+fn add_typing(
+    alloc: Global,
+    before: &mut Bares,
+    term: &Bare,
+    ty: &Bare,
+    facts: &mut Sequence<Fact>,
+) -> Result<(), NoMemory>
+    ensures before { OnOk result (before.new ≡ before.old ++ term.now ∷ []) }
+    ensures facts { OnOk result (facts.new ≡ facts.old ++ typing_fact term.now (opened before.old ty.now) ∷ []) }
+{
+    let ty = opened(alloc, ty, before)?;
+    facts.push(typing_fact(alloc, term, ty)?)?;
+    before.push(term.copy(alloc)?)?;
+    Ok(())
 }
 
 fn gives_this(environment: &Environment, reference: &Ref, fact: &Fact) -> bool

@@ -1,4 +1,4 @@
-ghost use Rattle.std.specs.Prelude.{◌≡◌, IfOk, OnOk, map, None, Some};
+ghost use Rattle.std.specs.Prelude.{◌≡◌, ◌≤◌, IfOk, OnOk, map, None, Some};
 ghost use Rattle.std.specs.Option.{option_copied};
 ghost use Rattle.mu_proof.specs.Proofs.{root};
 ghost use Rattle.mu_check.specs.Facts.{plain_fact};
@@ -253,8 +253,8 @@ fn goal_by<C: Context>(alloc: Global, context: &C, statement: &Statement) -> Res
     ensures { IfOk result (λ goal. goal ≡ goal_by (C.world context.now) statement.now) }
 {
     let conclusion = stated_fact(alloc, &statement.claim.conclusion)?;
-    let environment = start(alloc, &statement.claim)?;
     let allowed = allowed_by(alloc, context, statement)?;
+    let environment = start(alloc, &statement.claim)?;
     Ok(Goal {
         allowed,
         environment,
@@ -361,6 +361,7 @@ impl Checker {
     ) -> Result<Verdict, NoMemory>
         requires { IsChecker (C.world context.now) self.old }
         ensures work { work.new.lines ≡ raised work.old.lines (lines_of proof.now) }
+        ensures grows { work.old.lines ≤ work.new.lines }
         ensures verdict { IfOk result (λ found. found ≡ verdict (C.world context.now) self.old.rule proof.now) }
         ensures kept { OnOk result (IsChecker (C.world context.now) self.new) }
         ensures rule { OnOk result (self.new.rule ≡ self.old.rule) }
@@ -372,8 +373,10 @@ impl Checker {
 
 /// Counts the lines of a proof as work.
 fn count(proof: &Proof, work: &mut Work)
-    ensures { work.new.lines ≡ raised work.old.lines (lines_of proof.now) }
+    ensures work { work.new.lines ≡ raised work.old.lines (lines_of proof.now) }
+    ensures grows { work.old.lines ≤ work.new.lines }
 {
+    let _before = work.lines();
     work.add_lines(lines_of(proof.items()));
 }
 
