@@ -16,13 +16,13 @@ use Rattle.mu_check.specs.declared.verdicts.Goal.{Goal}
 use Rattle.mu_check.specs.Facts.{plain_fact, hypothesis_fact}
 use Rattle.mu_check.specs.Environments.{start, left}
 use Rattle.mu_check.specs.Verdicts.{checked, in_order, ends, labelled, root_cause, allowed_by, claim_fault, verdict, verdict_by}
-use Rattle.mu_check.specs.Goals.{conclusion_cause, goal_by, goal_fault, IsGoal, KeepsGoal}
+use Rattle.mu_check.specs.Goals.{conclusion_cause, goal_by, goal_fault, nothing, IsGoal, KeepsGoal}
 
 by_tree : (t : Tree) (o : Option Tree) → conclusion_cause (plain_fact [] t) o ≡ root_cause t o
 by_tree t None = refl
 by_tree t (Some last) = refl
 
-again : (env : Environment) (s : Statement) → env.hyps ≡ map hypothesis_fact s.claim.hyps → left 0 0 0 env ≡ start s.claim
+again : (env : Environment) (s : Statement) → env.hyps ≡ map hypothesis_fact s.claim.hyps → left nothing env ≡ start s.claim
 again env s h = λ j. record { scope = []; hyps = h j; blocks = []; items = [] }
 
 abbrev fault_by : World → List Item → Allowed → Environment → Fact → Option Fault
@@ -31,7 +31,7 @@ fault_by w items allowed env conclusion = option_or (in_order (map (checked w al
 -- the first fault against a goal is the verdict on a proof of its rule
 pub goal_verdict : (w : World) (r : List ℕ) (g : Goal) (items : List Item) → IsGoal w r g → goal_fault w g items ≡ verdict w r items
 goal_verdict w r g items is =
-    ap (λ a. fault_by w items a (left 0 0 0 g.environment) g.conclusion) is.allowed
+    ap (λ a. fault_by w items a (left nothing g.environment) g.conclusion) is.allowed
     ∙ ap (λ env. fault_by w items (allowed_by w is.statement) env g.conclusion) (again g.environment is.statement is.hyps)
     ∙ ap (fault_by w items (allowed_by w is.statement) (start is.statement.claim)) is.conclusion
     ∙ ap (λ cause. option_or (in_order (map (checked w (allowed_by w is.statement)) items) (start is.statement.claim)) (labelled root cause)) (by_tree is.statement.claim.conclusion (ends (map (checked w (allowed_by w is.statement)) items)))

@@ -13,8 +13,7 @@ use Rattle.std.proofs.lemmas.List.Folds.{list_all-append}
 use Rattle.std.proofs.lemmas.Slice.Zip.{AllZip-long}
 use Rattle.mu_tree.specs.Names.{is_among}
 use Rattle.mu_tree.specs.declared.trees.Tree.{Tree}
-use Rattle.mu_tree.specs.declared.claim.Kind.{Kind}
-use Rattle.mu_tree.specs.declared.claim.Kind.TheVariants.{E, T}
+use Rattle.mu_tree.specs.declared.claim.Kind.TheVariants.{E}
 use Rattle.mu_tree.specs.declared.claim.TypedVar.{TypedVar}
 use Rattle.mu_tree.specs.declared.claim.Definition.{Definition}
 use Rattle.mu_tree.specs.declared.why.Ref.{Ref}
@@ -31,6 +30,7 @@ use Rattle.mu_decl.specs.declared.bare.Bare.{Bare}
 use Rattle.mu_decl.specs.declared.declaration.ConstDecl.{ConstDecl}
 use Rattle.mu_decl.specs.declared.declaration.Statement.{Statement}
 use Rattle.mu_decl.specs.declared.occurring.Occurrence.{Occurrence}
+use Rattle.mu_decl.proofs.SameOccurrences.{occurrence_is, occurrence_itself}
 use Rattle.mu_proof.specs.declared.items.Item.{Item}
 use Rattle.mu_proof.specs.declared.items.Item.TheVariants as item
 use Rattle.mu_proof.specs.Proofs.{root}
@@ -128,28 +128,6 @@ module _ {A : Type 0} (t : A → Bool) (P : A → Type 0) where
   all_tested tells (x ∷ xs) (h, all) = and_from _ _ (tells x h) (all_tested tells xs all)
 
 -- ---- metavariables
-kind_is : (a b : Kind) → same_kind a b ≡ true → a ≡ b
-kind_is E E e = refl
-kind_is T T e = refl
-kind_is E T e = cc
-kind_is T E e = cc
-
-kind_itself : (a : Kind) → same_kind a a ≡ true
-kind_itself E = refl
-kind_itself T = refl
-
-occurrence_is : (o p : Occurrence) → same_occurrence o p ≡ true → o ≡ p
-occurrence_is o p h =
-    let kinds = and_parts (pointwise nat_eq p.meta o.meta && nat_eq p.count o.count) (same_kind p.kind o.kind) h in
-    let counts = and_parts (pointwise nat_eq p.meta o.meta) (nat_eq p.count o.count) kinds.0 in
-    let meta : o.meta ≡ p.meta = sym (same_text p.meta o.meta (sym counts.0)) in
-    let count : o.count ≡ p.count = sym (eqb-true p.count o.count counts.1) in
-    let kind : o.kind ≡ p.kind = sym (kind_is p.kind o.kind kinds.1) in
-    λ i. record { meta = meta i; count = count i; kind = kind i }
-
-occurrence_itself : (o : Occurrence) → same_occurrence o o ≡ true
-occurrence_itself o = and_from _ _ (and_from _ _ (nat_list_eq_equiv.refl o.meta) (eq-eqb o.count o.count refl)) (kind_itself o.kind)
-
 module _ (w : World) (s : Statement) where
   all_known : (found : List Occurrence) → are_known (claim_occurrences w s.claim) found ≡ true → AreKnown w s found
   all_known = all_told (is_known (claim_occurrences w s.claim)) (Contains (claim_occurrences w s.claim)) (λ o e. Contains-from_any {eq = same_occurrence} occurrence_is o (claim_occurrences w s.claim) e)

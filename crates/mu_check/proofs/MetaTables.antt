@@ -9,28 +9,11 @@ use Rattle.std.specs.FinMap as finite
 use Rattle.std.proofs.lemmas.Bool.{and_parts, and_left, both_ways, cases_Bool, false_from_ne_true, eqb-true}
 use Rattle.std.proofs.lemmas.List.Folds.{list_any-append}
 use Rattle.mu_tree.specs.Maps.{MapOf}
-use Rattle.mu_tree.specs.declared.claim.Kind.{Kind}
-use Rattle.mu_tree.specs.declared.claim.Kind.TheVariants.{E, T}
 use Rattle.mu_tree.proofs.MapLemmas.{same_name, get-insert_here, get-insert_other, insert_twice}
 use Rattle.mu_decl.specs.declared.occurring.Occurrence.{Occurrence}
-use Rattle.mu_decl.specs.Formation.{same_kind}
 use Rattle.mu_decl.specs.Claims.{same_occurrence}
+use Rattle.mu_decl.proofs.SameOccurrences.{occurrence_is}
 use Rattle.mu_check.specs.Metas.{is_known, first_of, occurrences_at, is_tabled, noted, Tells}
-
-kind_is : (a b : Kind) → same_kind a b ≡ true → a ≡ b
-kind_is E E e = refl
-kind_is T T e = refl
-kind_is E T e = cc
-kind_is T E e = cc
-
-occurrence_same : (a b : Occurrence) → a.meta ≡ b.meta → a.count ≡ b.count → a.kind ≡ b.kind → a ≡ b
-occurrence_same a b m c k = λ i. record { meta = m i; count = c i; kind = k i }
-
-same_is : (q o : Occurrence) → same_occurrence q o ≡ true → q ≡ o
-same_is q o h =
-    let kinds = and_parts (pointwise nat_eq o.meta q.meta && nat_eq o.count q.count) (same_kind o.kind q.kind) h in
-    let counts = and_parts (pointwise nat_eq o.meta q.meta) (nat_eq o.count q.count) kinds.0 in
-    occurrence_same q o (sym (same_text o.meta q.meta (sym counts.0))) (sym (eqb-true o.count q.count counts.1)) (sym (kind_is o.kind q.kind kinds.1))
 
 names_differ : (a b : List ℕ) → (a ≡ b → ⊥) → pointwise nat_eq a b ≡ false
 names_differ a b n = false_from_ne_true (pointwise nat_eq a b) (λ t. n (same_text a b (sym t)))
@@ -76,7 +59,7 @@ module _ (table : MapOf (List Occurrence)) (all : List Occurrence) (o : Occurren
   -- it occurs in this way already
   kept : is_tabled table o ≡ true → Tells table (all ++ o ∷ [])
   kept is = record {
-    known = λ q. tells.known q ∙ or_true (is_known all q) (same_occurrence q o) (λ s. subst (λ p. is_known all p ≡ true) (sym (same_is q o s)) (sym (tells.known o) ∙ is)) ∙ sym (known_more all o q);
+    known = λ q. tells.known q ∙ or_true (is_known all q) (same_occurrence q o) (λ s. subst (λ p. is_known all p ≡ true) (sym (occurrence_is q o s)) (sym (tells.known o) ∙ is)) ∙ sym (known_more all o q);
     first = λ m. kept_first m;
   }
     where

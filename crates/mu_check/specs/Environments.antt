@@ -1,5 +1,5 @@
 -- What may be cited where an item stands.
-use Rattle.std.specs.Prelude.{◌≡◌, take, ℕ, zero, suc, Bool, List, [], ◌∷◌, ◌++◌, map, nat_eq, Option, Some, None, slice_get, find}
+use Rattle.std.specs.Prelude.{◌≡◌, take, length, ℕ, zero, suc, Bool, List, [], ◌∷◌, ◌++◌, map, nat_eq, Option, Some, None, slice_get, find}
 use Rattle.std.specs.Option.{is_some}
 use Rattle.std.specs.Cmp.Lexicographic.{pointwise}
 use Rattle.mu_tree.specs.declared.trees.Tree.{Tree}
@@ -12,6 +12,7 @@ use Rattle.mu_check.specs.declared.fact.Fact.{Fact}
 use Rattle.mu_check.specs.declared.environments.KnownItem.{KnownItem}
 use Rattle.mu_check.specs.declared.environments.KnownBlock.{KnownBlock}
 use Rattle.mu_check.specs.declared.environments.Environment.{Environment}
+use Rattle.mu_check.specs.declared.environments.Extent.{Extent}
 use Rattle.mu_check.specs.Labels.{item_of}
 use Rattle.mu_check.specs.Facts.{hypothesis_fact, assumptions_of}
 
@@ -39,9 +40,13 @@ gives env (reference.Hypothesis n) = nth env.hyps n
 abbrev pub is_accessible : Environment → Ref → Bool
 is_accessible env x = is_some (gives env x)
 
+-- before the first item of a proof, by hypotheses
+abbrev pub starting : List Fact → Environment
+starting hyps = record { scope = []; hyps = hyps; blocks = []; items = [] }
+
 -- before the first item of a proof: the hypotheses of its claim
 abbrev pub start : Claim → Environment
-start claim = record { scope = []; hyps = map hypothesis_fact claim.hyps; blocks = []; items = [] }
+start claim = starting (map hypothesis_fact claim.hyps)
 
 -- after an item that gives this
 abbrev pub with_item : List ℕ → Fact → Environment → Environment
@@ -51,9 +56,13 @@ with_item l f env = record { scope = env.scope; hyps = env.hyps; blocks = env.bl
 abbrev pub within : List ℕ → List TypedVar → List Tree → Environment → Environment
 within l vars trees env = record { scope = env.scope ++ names_of vars; hyps = env.hyps; blocks = env.blocks ++ record { label = l; assumptions = assumptions_of env.scope vars trees } ∷ []; items = env.items }
 
--- back where a block was entered: this many variables, blocks and items
-abbrev pub left : ℕ → ℕ → ℕ → Environment → Environment
-left scope blocks items env = record { scope = take scope env.scope; hyps = env.hyps; blocks = take blocks env.blocks; items = take items env.items }
+-- how many variables, blocks and items there are
+abbrev pub extent_of : Environment → Extent
+extent_of env = record { scope = length env.scope; blocks = length env.blocks; items = length env.items }
+
+-- back where there was this much
+abbrev pub left : Extent → Environment → Environment
+left extent env = record { scope = take extent.scope env.scope; hyps = env.hyps; blocks = take extent.blocks env.blocks; items = take extent.items env.items }
 
 -- nothing has gone, and only items have come
 pub record Keeps (env later : Environment) : Type 0 where

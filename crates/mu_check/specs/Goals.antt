@@ -11,6 +11,7 @@ use Rattle.mu_check.specs.declared.cause.Cause.{Cause}
 use Rattle.mu_check.specs.declared.cause.Cause.TheVariants.{Unfinished, ConclusionDiffers}
 use Rattle.mu_check.specs.declared.cause.Fault.{Fault}
 use Rattle.mu_check.specs.declared.fact.Fact.{Fact}
+use Rattle.mu_check.specs.declared.environments.Extent.{Extent}
 use Rattle.mu_check.specs.declared.verdicts.Goal.{Goal}
 use Rattle.mu_check.specs.declared.verdicts.Checker.{Checker}
 use Rattle.mu_check.specs.Same.{equal_facts}
@@ -28,10 +29,14 @@ conclusion_cause conclusion (Some t) = test (equal_facts (plain_fact [] t) concl
 abbrev pub goal_by : World → Statement → Goal
 goal_by w s = record { allowed = allowed_by w s; environment = start s.claim; conclusion = plain_fact [] s.claim.conclusion }
 
+-- no variables, blocks and items
+abbrev pub nothing : Extent
+nothing = record { scope = 0; blocks = 0; items = 0 }
+
 -- the first fault of a proof of a goal, before whose first item the hypotheses alone may be cited
 abbrev pub goal_fault : World → Goal → List Item → Option Fault
 goal_fault w g items =
-    option_or (in_order (map (checked w g.allowed) items) (left 0 0 0 g.environment))
+    option_or (in_order (map (checked w g.allowed) items) (left nothing g.environment))
     (labelled root (conclusion_cause g.conclusion (ends (map (checked w g.allowed) items))))
 
 -- a goal is that of a rule, apart from what else may be cited

@@ -7,8 +7,19 @@ use crate::cause::Cause;
 use mu_decl::{
     Context, add_expressions, add_type_occurrences, all_formed, all_occurrences, types_formed,
 };
-use mu_tree::{Names, NoMemory, Sequence, Tree, TypedVar};
+use mu_tree::{Name, Names, NoMemory, Sequence, Tree, TypedVar};
 use std::alloc::Global;
+
+/// A block, without its items.
+#[derive(Clone, Copy)]
+pub struct BlockHead<'a> {
+    /// Its label.
+    pub label: &'a Name,
+    /// Its variables.
+    pub vars: &'a [TypedVar],
+    /// What it assumes of them.
+    pub assumptions: &'a [Tree],
+}
 
 fn shadow(scope: &Names, vars: &[TypedVar]) -> bool
     ensures { result ≡ list_any (shadows scope.now) vars.now }
@@ -21,17 +32,16 @@ fn block_formed<C: Context>(
     context: &C,
     allowed: &Allowed,
     scope: &Names,
-    vars: &[TypedVar],
-    assumptions: &[Tree],
+    head: BlockHead,
 ) -> Result<bool, NoMemory>
-    ensures { IfOk result (λ yes. yes ≡ block_formed (C.world context.now) allowed.now scope.now vars.now assumptions.now) }
+    ensures { IfOk result (λ yes. yes ≡ block_formed (C.world context.now) allowed.now scope.now head.entry.vars.now head.entry.assumptions.now) }
 {
     let mut inner = Sequence::new(alloc);
     add_expressions(alloc, scope.items(), &mut inner)?;
-    if !types_formed(alloc, context, &allowed.seen, &mut inner, vars)? {
+    if !types_formed(alloc, context, &allowed.seen, &mut inner, head.vars)? {
         return Ok(false);
     }
-    all_formed(alloc, context, &allowed.seen, &mut inner, assumptions)
+    all_formed(alloc, context, &allowed.seen, &mut inner, head.assumptions)
 }
 
 /// The first test that a block fails before its items are looked at.
@@ -40,20 +50,19 @@ pub fn block_cause<C: Context>(
     context: &C,
     allowed: &Allowed,
     scope: &Names,
-    vars: &[TypedVar],
-    assumptions: &[Tree],
+    head: BlockHead,
 ) -> Result<Option<Cause>, NoMemory>
-    ensures { IfOk result (λ cause. cause ≡ block_cause (C.world context.now) allowed.now scope.now vars.now assumptions.now) }
+    ensures { IfOk result (λ cause. cause ≡ block_cause (C.world context.now) allowed.now scope.now head.entry.vars.now head.entry.assumptions.now) }
 {
-    if shadow(scope, vars) {
+    if shadow(scope, head.vars) {
         return Ok(Some(Cause::ShadowedVariable));
     }
-    if !block_formed(alloc, context, allowed, scope, vars, assumptions)? {
+    if !block_formed(alloc, context, allowed, scope, head)? {
         return Ok(Some(Cause::IllFormedBox));
     }
     let mut found = Sequence::new(alloc);
-    add_type_occurrences(alloc, context, vars, &mut found)?;
-    all_occurrences(alloc, context, assumptions, &mut found)?;
+    add_type_occurrences(alloc, context, head.vars, &mut found)?;
+    all_occurrences(alloc, context, head.assumptions, &mut found)?;
     if !allowed.metas.have(&found) {
         return Ok(Some(Cause::ForeignMeta));
     }

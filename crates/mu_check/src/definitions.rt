@@ -1,11 +1,14 @@
-ghost use Rattle.std.specs.Prelude.{◌≡◌, ◌++◌, IfOk, OnOk, length};
+ghost use Rattle.std.specs.Prelude.{◌≡◌, [], ◌++◌, IfOk, OnOk, length, nat_eq};
 ghost use Rattle.std.specs.Option.{option_copied};
+ghost use Rattle.mu_decl.specs.Formation.{occurrences};
+ghost use Rattle.mu_decl.specs.Nameless.{nameless};
+ghost use Rattle.mu_decl.specs.Unfolding.{delta_of};
+ghost use Rattle.mu_check.specs.declared.fact.Fact.TheVariants as fact;
 ghost use Rattle.mu_check.specs.Definitions.{parameters, body_formed, definition_formed, unfolded_fact, unfolding_cause, defined_cause, definition_cause};
 
-use crate::allowed::Allowed;
 use crate::cause::Cause;
-use crate::environments::Environment;
-use crate::fact::{Fact, is_equal};
+use crate::fact::{Fact, difference};
+use crate::lines::PlacedLine;
 use mu_decl::{
     Bare, ConstDecl, Context, DeltaRule, Scope, Scoped, delta_of, enter, is_formed, occurrences,
     unfolded,
@@ -52,14 +55,20 @@ fn body_formed<C: Context>(
     )? {
         return Ok(false);
     }
+    has_no_metas(alloc, context, declared.result, &definition.body)
+}
+
+/// Whether no metavariable is in a tree of this kind.
+fn has_no_metas<C: Context>(
+    alloc: Global,
+    context: &C,
+    kind: Kind,
+    tree: &Tree,
+) -> Result<bool, NoMemory>
+    ensures { IfOk result (λ yes. yes ≡ nat_eq (length (occurrences (C.world context.now) tree.now kind)) 0) }
+{
     let mut found = Sequence::new(alloc);
-    occurrences(
-        alloc,
-        context,
-        declared.result,
-        &definition.body,
-        &mut found,
-    )?;
+    occurrences(alloc, context, kind, tree, &mut found)?;
     Ok(found.len() == 0)
 }
 
@@ -84,31 +93,47 @@ fn unfolded_fact(alloc: Global, delta: &DeltaRule, tree: &Bare) -> Result<Fact, 
     Ok(Fact::Plain(unfolded(alloc, tree, delta)?))
 }
 
+/// Line and tree, both unfolded.
+fn unfolded_cause(
+    alloc: Global,
+    line: PlacedLine,
+    delta: &DeltaRule,
+    tree: &Bare,
+) -> Result<Option<Cause>, NoMemory>
+    ensures { IfOk result (λ cause. cause ≡ unfolding_cause line.entry.environment.now line.entry.tree.now delta.now (Some (fact.Plain tree.now))) }
+{
+    let said = unfolded_line(alloc, line, delta)?;
+    let wanted = unfolded_fact(alloc, delta, tree)?;
+    Ok(difference(&said, &wanted))
+}
+
+/// The tree of a line, unfolded.
+fn unfolded_line(alloc: Global, line: PlacedLine, delta: &DeltaRule) -> Result<Fact, NoMemory>
+    ensures { IfOk result (λ fact. fact ≡ unfolded_fact delta.now (nameless line.entry.environment.now.scope [] line.entry.tree.now)) }
+{
+    let bare = entered_tree(alloc, line)?;
+    unfolded_fact(alloc, delta, &bare)
+}
+
+fn entered_tree(alloc: Global, line: PlacedLine) -> Result<Bare, NoMemory>
+    ensures { IfOk result (λ bare. bare ≡ nameless line.entry.environment.now.scope [] line.entry.tree.now) }
+{
+    let bound = Names::new(alloc);
+    enter(alloc, line.tree, &line.environment.scope, &bound)
+}
+
 /// Line and reference, both unfolded.
 fn unfolding_cause(
     alloc: Global,
-    environment: &Environment,
-    tree: &Tree,
+    line: PlacedLine,
     delta: &DeltaRule,
     given: Option<&Fact>,
 ) -> Result<Option<Cause>, NoMemory>
-    ensures { IfOk result (λ cause. cause ≡ unfolding_cause environment.now tree.now delta.now (option_copied given.entry)) }
+    ensures { IfOk result (λ cause. cause ≡ unfolding_cause line.entry.environment.now line.entry.tree.now delta.now (option_copied given.entry)) }
 {
     match given {
-        Some(fact) => match fact {
-            Fact::Plain(bare) => {
-                let bound = Names::new(alloc);
-                let line = enter(alloc, tree, &environment.scope, &bound)?;
-                let line = unfolded_fact(alloc, delta, &line)?;
-                let wanted = unfolded_fact(alloc, delta, bare)?;
-                if is_equal(&line, &wanted) {
-                    Ok(None)
-                } else {
-                    Ok(Some(Cause::ConclusionDiffers))
-                }
-            }
-            Fact::Sequent { .. } => Ok(Some(Cause::HypothesisDiffers)),
-        },
+        Some(Fact::Plain(bare)) => unfolded_cause(alloc, line, delta, bare),
+        Some(Fact::Sequent { .. }) => Ok(Some(Cause::HypothesisDiffers)),
         None => Ok(None),
     }
 }
@@ -116,28 +141,39 @@ fn unfolding_cause(
 fn defined_cause<C: Context>(
     alloc: Global,
     context: &C,
-    allowed: &Allowed,
-    environment: &Environment,
-    tree: &Tree,
+    line: PlacedLine,
     constant: &Name,
     given: Option<&Fact>,
     definition: &Definition,
     declared: Option<&ConstDecl>,
 ) -> Result<Option<Cause>, NoMemory>
-    ensures { IfOk result (λ cause. cause ≡ defined_cause (C.world context.now) allowed.now environment.now tree.now constant.now (option_copied given.entry) definition.now (option_copied declared.entry)) }
+    ensures { IfOk result (λ cause. cause ≡ defined_cause (C.world context.now) line.entry.allowed.now line.entry.environment.now line.entry.tree.now constant.now (option_copied given.entry) definition.now (option_copied declared.entry)) }
 {
     let declared = match declared {
         Some(declared) => declared,
         None => return Ok(Some(Cause::NotVisible)),
     };
-    if !allowed.seen.contains(&declared.theory) {
+    if !line.allowed.seen.contains(&declared.theory) {
         return Ok(Some(Cause::NotVisible));
     }
     if !definition_formed(alloc, context, declared, definition)? {
         return Ok(Some(Cause::IllFormedDefinition));
     }
+    given_cause(alloc, line, constant, definition, given)
+}
+
+/// Line and reference, unfolded by a definition.
+fn given_cause(
+    alloc: Global,
+    line: PlacedLine,
+    constant: &Name,
+    definition: &Definition,
+    given: Option<&Fact>,
+) -> Result<Option<Cause>, NoMemory>
+    ensures { IfOk result (λ cause. cause ≡ unfolding_cause line.entry.environment.now line.entry.tree.now (delta_of constant.now definition.now) (option_copied given.entry)) }
+{
     let delta = delta_of(alloc, constant, definition)?;
-    let cause = unfolding_cause(alloc, environment, tree, &delta, given)?;
+    let cause = unfolding_cause(alloc, line, &delta, given)?;
     Ok(cause)
 }
 
@@ -146,22 +182,18 @@ fn defined_cause<C: Context>(
 pub fn definition_cause<C: Context>(
     alloc: Global,
     context: &C,
-    allowed: &Allowed,
-    environment: &Environment,
-    tree: &Tree,
+    line: PlacedLine,
     constant: &Name,
     given: Option<&Fact>,
     definition: Option<&Definition>,
 ) -> Result<Option<Cause>, NoMemory>
-    ensures { IfOk result (λ cause. cause ≡ definition_cause (C.world context.now) allowed.now environment.now tree.now constant.now (option_copied given.entry) (option_copied definition.entry)) }
+    ensures { IfOk result (λ cause. cause ≡ definition_cause (C.world context.now) line.entry.allowed.now line.entry.environment.now line.entry.tree.now constant.now (option_copied given.entry) (option_copied definition.entry)) }
 {
     match definition {
         Some(definition) => defined_cause(
             alloc,
             context,
-            allowed,
-            environment,
-            tree,
+            line,
             constant,
             given,
             definition,

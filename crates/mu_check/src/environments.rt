@@ -3,23 +3,24 @@ ghost use Rattle.std.specs.Option.{option_copied, option_map};
 ghost use Rattle.std.specs.List.{list_all};
 ghost use Rattle.std.specs.Cmp.Lexicographic.{pointwise};
 ghost use Rattle.mu_check.specs.Facts.{hypothesis_fact};
-ghost use Rattle.mu_check.specs.Environments.{nth, block_of, gives, is_accessible, start, with_item, within, left};
+ghost use Rattle.mu_check.specs.Environments.{nth, block_of, gives, is_accessible, starting, start, with_item, within, extent_of, left};
 
+use crate::blocks::BlockHead;
 use crate::fact::Fact;
 use crate::facts::{assumptions_of, hypothesis_fact};
 use crate::labels::KnownItems;
-use mu_tree::{Claim, Name, Names, NoMemory, Ref, Sequence, Tree, TypedVar};
+use mu_tree::{Claim, Name, Names, NoMemory, Ref, Sequence};
 use std::alloc::Global;
 
 /// An item that may be cited, with what it gives.
-#[derive(Debug, Drop)]
+#[derive(Drop)]
 pub struct KnownItem {
     pub label: Name,
     pub gives: Fact,
 }
 
 /// An enclosing block, with its assumptions.
-#[derive(Debug, Drop)]
+#[derive(Drop)]
 pub struct KnownBlock {
     pub label: Name,
     pub assumptions: Sequence<Fact>,
@@ -36,6 +37,14 @@ pub struct Environment {
     pub blocks: Sequence<KnownBlock>,
     /// The items before this one that may be cited, in order.
     pub items: KnownItems,
+}
+
+/// How much there is in an environment: so many variables, blocks and items.
+#[derive(Clone, Copy)]
+pub struct Extent {
+    pub scope: usize,
+    pub blocks: usize,
+    pub items: usize,
 }
 
 fn block_of<'a>(blocks: &'a [KnownBlock], label: &Name) -> Option<&'a KnownBlock>
@@ -91,12 +100,18 @@ pub fn start(alloc: Global, claim: &Claim) -> Result<Environment, NoMemory>
     for hypothesis in claim.hyps.items() {
         hyps.push(hypothesis_fact(alloc, hypothesis)?)?;
     }
-    Ok(Environment {
+    Ok(starting(alloc, hyps))
+}
+
+fn starting(alloc: Global, hyps: Sequence<Fact>) -> Environment
+    ensures { result ≡ starting hyps }
+{
+    Environment {
         scope: Sequence::new(alloc),
         hyps,
         blocks: Sequence::new(alloc),
         items: KnownItems::new(alloc),
-    })
+    }
 }
 
 /// Adds an item, which may be cited from now on.
@@ -117,23 +132,32 @@ pub fn add_item(
 pub fn within(
     alloc: Global,
     environment: &mut Environment,
-    label: &Name,
-    vars: &[TypedVar],
-    assumptions: &[Tree],
+    head: BlockHead,
 ) -> Result<(), NoMemory>
-    ensures { OnOk result (environment.new ≡ within label.now vars.now assumptions.now environment.old) }
+    ensures { OnOk result (environment.new ≡ within head.entry.label.now head.entry.vars.now head.entry.assumptions.now environment.old) }
 {
-    let assumptions = assumptions_of(alloc, &mut environment.scope, vars, assumptions)?;
-    let label = label.copy(alloc)?;
+    let assumptions = assumptions_of(alloc, &mut environment.scope, head.vars, head.assumptions)?;
+    let label = head.label.copy(alloc)?;
     environment.blocks.push(KnownBlock { label, assumptions })?;
     Ok(())
 }
 
-/// Goes back to where a block was entered: this many variables, blocks and items.
-pub fn leave(environment: &mut Environment, scope: usize, blocks: usize, items: usize)
-    ensures { environment.new ≡ left scope blocks items environment.old }
+/// How much there is in an environment.
+pub fn extent_of(environment: &Environment) -> Extent
+    ensures { result ≡ extent_of environment.now }
 {
-    environment.scope.truncate(scope);
-    environment.blocks.truncate(blocks);
-    environment.items.truncate(items);
+    Extent {
+        scope: environment.scope.len(),
+        blocks: environment.blocks.len(),
+        items: environment.items.len(),
+    }
+}
+
+/// Goes back to where there was this much.
+pub fn leave(environment: &mut Environment, extent: Extent)
+    ensures { environment.new ≡ left extent environment.old }
+{
+    environment.scope.truncate(extent.scope);
+    environment.blocks.truncate(extent.blocks);
+    environment.items.truncate(extent.items);
 }

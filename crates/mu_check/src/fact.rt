@@ -1,13 +1,16 @@
 ghost use Rattle.std.specs.Prelude.{◌≡◌, ◌↔◌, IsTrue, IfOk};
+ghost use Rattle.mu_check.specs.declared.cause.Cause.TheVariants.{ConclusionDiffers};
+ghost use Rattle.mu_check.specs.Causes.{test};
 ghost use Rattle.mu_check.specs.Facts.{instantiated_fact};
 ghost use Rattle.mu_check.specs.Same.{equal_facts};
 
+use crate::cause::Cause;
 use mu_decl::{Abstractions, Bare, Bares, are_instances_of, is_instance_of, same, same_all};
 use mu_tree::NoMemory;
 use std::alloc::Global;
 
 /// What a reference gives.
-#[derive(Debug, Drop)]
+#[derive(Drop)]
 pub enum Fact {
     /// A nameless tree.
     Plain(Bare),
@@ -50,6 +53,17 @@ pub fn is_equal(left: &Fact, right: &Fact) -> bool
     ensures { result ≡ equal_facts left.now right.now }
 {
     same_fact(left, right)
+}
+
+/// The cause where a line gives something else than it should.
+pub fn difference(given: &Fact, wanted: &Fact) -> Option<Cause>
+    ensures { result ≡ test (equal_facts given.now wanted.now) ConclusionDiffers None }
+{
+    if is_equal(given, wanted) {
+        None
+    } else {
+        Some(Cause::ConclusionDiffers)
+    }
 }
 
 fn is_instance(

@@ -1,4 +1,4 @@
-ghost use Rattle.std.specs.Prelude.{◌≡◌, ◌++◌, IfOk, OnOk, map};
+ghost use Rattle.std.specs.Prelude.{◌≡◌, [], ◌∷◌, ◌++◌, IfOk, OnOk, map};
 ghost use Rattle.mu_decl.specs.Nameless.{nameless};
 ghost use Rattle.mu_decl.specs.Claims.{names_of};
 ghost use Rattle.mu_check.specs.Facts.{types_under, closed, hypothesis_fact, typing, typing_fact, typing_of, plain_fact, typings, entered};
@@ -72,6 +72,14 @@ pub fn plain_fact(alloc: Global, scope: &Names, tree: &Tree) -> Result<Fact, NoM
     Ok(Fact::Plain(enter(alloc, tree, scope, &bound)?))
 }
 
+/// A tree with no variable in scope.
+pub fn stated_fact(alloc: Global, tree: &Tree) -> Result<Fact, NoMemory>
+    ensures { IfOk result (λ fact. fact ≡ plain_fact [] tree.now) }
+{
+    let scope = Sequence::new(alloc);
+    plain_fact(alloc, &scope, tree)
+}
+
 /// What a hypothesis gives.
 pub fn hypothesis_fact(alloc: Global, hypothesis: &Hyp) -> Result<Fact, NoMemory>
     ensures { IfOk result (λ fact. fact ≡ hypothesis_fact hypothesis.now) }
@@ -91,11 +99,19 @@ pub fn hypothesis_fact(alloc: Global, hypothesis: &Hyp) -> Result<Fact, NoMemory
 pub fn typing_fact(alloc: Global, term: &Bare, ty: Bare) -> Result<Fact, NoMemory>
     ensures { IfOk result (λ fact. fact ≡ typing_fact term.now ty) }
 {
+    let arguments = both(alloc, term, ty)?;
     let name = typing(alloc)?;
-    let mut arguments = Items::new(alloc);
-    arguments.push(term.copy(alloc)?)?;
-    arguments.push(ty)?;
     Ok(Fact::Plain(Bare::App(name, arguments)))
+}
+
+/// A term, and a type after it.
+fn both(alloc: Global, term: &Bare, ty: Bare) -> Result<Bares, NoMemory>
+    ensures { IfOk result (λ trees. trees ≡ term.now ∷ ty ∷ []) }
+{
+    let mut trees = Items::new(alloc);
+    trees.push(term.copy(alloc)?)?;
+    trees.push(ty)?;
+    Ok(trees)
 }
 
 fn typing(alloc: Global) -> Result<Name, NoMemory>

@@ -1,13 +1,16 @@
-ghost use Rattle.std.specs.Prelude.{◌≡◌, [], ◌++◌, ◌+◌, IfOk, OnOk, map, nat_eq, length};
+ghost use Rattle.std.specs.Prelude.{◌≡◌, [], ◌∷◌, ◌++◌, ◌+◌, IfOk, OnOk, map, nat_eq, length};
 ghost use Rattle.std.specs.Option.{option_copied};
 ghost use Rattle.std.specs.Cmp.Lexicographic.{pointwise};
-ghost use Rattle.mu_check.specs.Hypotheses.{term_typings, opened_fact, gives_this, upshot_cause, plain_cause, terms_formed, sequent_cause, hypothesis_cause};
+ghost use Rattle.mu_decl.specs.Nameless.{nameless};
+ghost use Rattle.mu_decl.specs.Opening.{opened};
+ghost use Rattle.mu_check.specs.Facts.{typing_fact};
+ghost use Rattle.mu_check.specs.Hypotheses.{term_typings, wanted, opened_fact, gives_this, upshot_cause, plain_cause, terms_formed, sequent_cause, hypothesis_cause};
 
-use crate::allowed::Allowed;
 use crate::cause::Cause;
 use crate::environments::{Environment, gives};
-use crate::fact::{Fact, is_equal};
+use crate::fact::{Fact, difference, is_equal};
 use crate::facts::{enter_all, plain_fact, typing_fact};
+use crate::lines::PlacedLine;
 use mu_decl::{Bare, Bares, Context, add_expressions, all_formed, all_occurrences, opened};
 use mu_tree::{NoMemory, Ref, Sequence, Tree};
 use sqlite_items::Items;
@@ -41,10 +44,26 @@ fn term_typings(alloc: Global, terms: &[Bare], types: &[Bare]) -> Result<Sequenc
     let mut before = Items::new(alloc);
     let mut facts = Sequence::new(alloc);
     for i in 0..terms.len() {
-        facts.push(typing_fact(alloc, &terms[i], opened(alloc, &types[i], &before)?)?)?;
-        before.push(terms[i].copy(alloc)?)?;
+        add_typing(alloc, &mut before, &terms[i], &types[i], &mut facts)?;
     }
     Ok(facts)
+}
+
+/// Adds the typing of a term, and the term to those before the next one.
+fn add_typing(
+    alloc: Global,
+    before: &mut Bares,
+    term: &Bare,
+    ty: &Bare,
+    facts: &mut Sequence<Fact>,
+) -> Result<(), NoMemory>
+    ensures before { OnOk result (before.new ≡ before.old ++ term.now ∷ []) }
+    ensures facts { OnOk result (facts.new ≡ facts.old ++ typing_fact term.now (opened before.old ty.now) ∷ []) }
+{
+    let ty = opened(alloc, ty, before)?;
+    facts.push(typing_fact(alloc, term, ty)?)?;
+    before.push(term.copy(alloc)?)?;
+    Ok(())
 }
 
 fn gives_this(environment: &Environment, reference: &Ref, fact: &Fact) -> bool
@@ -73,8 +92,7 @@ fn all_give(environment: &Environment, refs: &[Ref], facts: &[Fact]) -> bool
 /// The first test that references and line fail against a sequent at these terms, one for each of its variables.
 fn upshot_cause(
     alloc: Global,
-    environment: &Environment,
-    tree: &Tree,
+    line: PlacedLine,
     refs: &[Ref],
     terms: &Bares,
     types: &Bares,
@@ -82,55 +100,60 @@ fn upshot_cause(
     upshot: &Bare,
 ) -> Result<Option<Cause>, NoMemory>
     requires { length terms.now ≡ length types.now }
-    ensures { IfOk result (λ cause. cause ≡ upshot_cause environment.now tree.now refs.now terms.now types.now premises.now upshot.now) }
+    ensures { IfOk result (λ cause. cause ≡ upshot_cause line.entry.environment.now line.entry.tree.now refs.now terms.now types.now premises.now upshot.now) }
+{
+    if !give_wanted(alloc, line.environment, refs, terms, types, premises)? {
+        return Ok(Some(Cause::HypothesisDiffers));
+    }
+    let upshot = opened_fact(alloc, terms, upshot)?;
+    plain_cause(alloc, line, &upshot)
+}
+
+/// Whether the references give what a sequent wants at these terms.
+fn give_wanted(
+    alloc: Global,
+    environment: &Environment,
+    refs: &[Ref],
+    terms: &Bares,
+    types: &Bares,
+    premises: &Bares,
+) -> Result<bool, NoMemory>
+    requires { length terms.now ≡ length types.now }
+    ensures { IfOk result (λ yes. yes ≡ pointwise (gives_this environment.now) refs.now (wanted terms.now types.now premises.now)) }
 {
     let mut facts = term_typings(alloc, terms.as_slice(), types.as_slice())?;
     add_opened(alloc, terms, premises.as_slice(), &mut facts)?;
-    if !all_give(environment, refs, facts.items()) {
-        return Ok(Some(Cause::HypothesisDiffers));
-    }
-    let line = plain_fact(alloc, &environment.scope, tree)?;
-    let upshot = opened_fact(alloc, terms, upshot)?;
-    if is_equal(&line, &upshot) {
-        Ok(None)
-    } else {
-        Ok(Some(Cause::ConclusionDiffers))
-    }
+    Ok(all_give(environment, refs, facts.items()))
 }
 
 fn terms_formed<C: Context>(
     alloc: Global,
     context: &C,
-    allowed: &Allowed,
-    environment: &Environment,
+    line: PlacedLine,
     terms: &[Tree],
 ) -> Result<bool, NoMemory>
-    ensures { IfOk result (λ yes. yes ≡ terms_formed (C.world context.now) allowed.now environment.now terms.now) }
+    ensures { IfOk result (λ yes. yes ≡ terms_formed (C.world context.now) line.entry.allowed.now line.entry.environment.now terms.now) }
 {
     let mut scope = Sequence::new(alloc);
-    add_expressions(alloc, environment.scope.items(), &mut scope)?;
-    if !all_formed(alloc, context, &allowed.seen, &mut scope, terms)? {
+    add_expressions(alloc, line.environment.scope.items(), &mut scope)?;
+    if !all_formed(alloc, context, &line.allowed.seen, &mut scope, terms)? {
         return Ok(false);
     }
     let mut found = Sequence::new(alloc);
     all_occurrences(alloc, context, terms, &mut found)?;
-    Ok(allowed.metas.have(&found))
+    Ok(line.allowed.metas.have(&found))
 }
 
-fn plain_cause(
+/// The cause where a line says something else than a fact.
+pub fn plain_cause(
     alloc: Global,
-    environment: &Environment,
-    tree: &Tree,
+    line: PlacedLine,
     given: &Fact,
 ) -> Result<Option<Cause>, NoMemory>
-    ensures { IfOk result (λ cause. cause ≡ plain_cause environment.now tree.now given.now) }
+    ensures { IfOk result (λ cause. cause ≡ plain_cause line.entry.environment.now line.entry.tree.now given.now) }
 {
-    let line = plain_fact(alloc, &environment.scope, tree)?;
-    if is_equal(&line, given) {
-        Ok(None)
-    } else {
-        Ok(Some(Cause::ConclusionDiffers))
-    }
+    let said = plain_fact(alloc, &line.environment.scope, line.tree)?;
+    Ok(difference(&said, given))
 }
 
 /// Whether a number is the sum of two.
@@ -147,50 +170,47 @@ fn are_together(number: usize, left: usize, right: usize) -> bool
 fn sequent_cause<C: Context>(
     alloc: Global,
     context: &C,
-    allowed: &Allowed,
-    environment: &Environment,
-    tree: &Tree,
+    line: PlacedLine,
     terms: &[Tree],
     refs: &[Ref],
     types: &Bares,
     premises: &Bares,
     upshot: &Bare,
 ) -> Result<Option<Cause>, NoMemory>
-    ensures { IfOk result (λ cause. cause ≡ sequent_cause (C.world context.now) allowed.now environment.now tree.now terms.now refs.now types.now premises.now upshot.now) }
+    ensures { IfOk result (λ cause. cause ≡ sequent_cause (C.world context.now) line.entry.allowed.now line.entry.environment.now line.entry.tree.now terms.now refs.now types.now premises.now upshot.now) }
 {
     if terms.len() != types.len() || !are_together(refs.len(), types.len(), premises.len()) {
         return Ok(Some(Cause::WrongCount));
     }
-    if !terms_formed(alloc, context, allowed, environment, terms)? {
+    if !terms_formed(alloc, context, line, terms)? {
         return Ok(Some(Cause::IllFormedInstance));
     }
-    let bound = Sequence::new(alloc);
-    let terms = enter_all(alloc, terms, &environment.scope, &bound)?;
-    let cause = upshot_cause(
-        alloc,
-        environment,
-        tree,
-        refs,
-        &terms,
-        types,
-        premises,
-        upshot,
-    )?;
+    let terms = entered_terms(alloc, line.environment, terms)?;
+    let cause = upshot_cause(alloc, line, refs, &terms, types, premises, upshot)?;
     Ok(cause)
+}
+
+fn entered_terms(
+    alloc: Global,
+    environment: &Environment,
+    terms: &[Tree],
+) -> Result<Bares, NoMemory>
+    ensures { IfOk result (λ trees. trees ≡ map (nameless environment.now.scope []) terms.now) }
+{
+    let bound = Sequence::new(alloc);
+    enter_all(alloc, terms, &environment.scope, &bound)
 }
 
 /// The first test that a line fails which cites a hypothesis, from the test that it is there on.
 pub fn hypothesis_cause<C: Context>(
     alloc: Global,
     context: &C,
-    allowed: &Allowed,
-    environment: &Environment,
-    tree: &Tree,
+    line: PlacedLine,
     terms: &[Tree],
     refs: &[Ref],
     cited: Option<&Fact>,
 ) -> Result<Option<Cause>, NoMemory>
-    ensures { IfOk result (λ cause. cause ≡ hypothesis_cause (C.world context.now) allowed.now environment.now tree.now terms.now refs.now (option_copied cited.entry)) }
+    ensures { IfOk result (λ cause. cause ≡ hypothesis_cause (C.world context.now) line.entry.allowed.now line.entry.environment.now line.entry.tree.now terms.now refs.now (option_copied cited.entry)) }
 {
     let cited = match cited {
         Some(cited) => cited,
@@ -201,7 +221,7 @@ pub fn hypothesis_cause<C: Context>(
             if terms.len() != 0 || refs.len() != 0 {
                 return Ok(Some(Cause::WrongCount));
             }
-            let cause = plain_cause(alloc, environment, tree, cited)?;
+            let cause = plain_cause(alloc, line, cited)?;
             Ok(cause)
         }
         Fact::Sequent {
@@ -212,9 +232,7 @@ pub fn hypothesis_cause<C: Context>(
             let cause = sequent_cause(
                 alloc,
                 context,
-                allowed,
-                environment,
-                tree,
+                line,
                 terms,
                 refs,
                 types,

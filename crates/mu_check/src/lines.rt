@@ -1,7 +1,21 @@
 ghost use Rattle.std.specs.Prelude.{◌≡◌, ◌-◌, ◌^◌, min};
 ghost use Rattle.mu_check.specs.Lines.{lines as lines_in, lines_of};
 
+use crate::allowed::Allowed;
+use crate::environments::Environment;
 use mu_proof::Item;
+use mu_tree::Tree;
+
+/// A line where it stands.
+#[derive(Clone, Copy)]
+pub struct PlacedLine<'a> {
+    /// What it may speak of.
+    pub allowed: &'a Allowed,
+    /// What it may cite.
+    pub environment: &'a Environment,
+    /// What it says.
+    pub tree: &'a Tree,
+}
 
 /// How many lines an item is or has. It stops at `u64::MAX`.
 #[cycle(lines)]

@@ -1,8 +1,8 @@
-ghost use Rattle.std.specs.Prelude.{◌≡◌, IfOk, OnOk, map, None, Some};
+ghost use Rattle.std.specs.Prelude.{◌≡◌, ◌≤◌, IfOk, OnOk, map, None, Some};
 ghost use Rattle.std.specs.Option.{option_copied};
 ghost use Rattle.mu_proof.specs.Proofs.{root};
 ghost use Rattle.mu_check.specs.Facts.{plain_fact};
-ghost use Rattle.mu_check.specs.Environments.{Keeps, with_item, within};
+ghost use Rattle.mu_check.specs.Environments.{Keeps, with_item, within, left};
 ghost use Rattle.mu_check.specs.Justifications.{line_cause};
 ghost use Rattle.mu_check.specs.Blocks.{block_cause};
 ghost use Rattle.mu_check.specs.Judgements.{VerdictsAreExact};
@@ -12,18 +12,17 @@ ghost use Rattle.mu_tables.specs.Work.{raised};
 ghost use Rattle.mu_check.specs.Lines.{lines_of};
 
 use crate::allowed::Allowed;
-use crate::blocks::block_cause;
+use crate::blocks::{BlockHead, block_cause};
 use crate::cause::{Cause, Fault, Verdict};
-use crate::environments::{Environment, add_item, leave, start, within};
-use crate::fact::{Fact, is_equal};
-use crate::facts::{closed, plain_fact};
-use crate::justifications::line_cause;
-use crate::lines::lines_of;
-use crate::metas::Metas;
-use mu_decl::{Context, Statement, claim_occurrences};
+use crate::environments::{Environment, Extent, add_item, extent_of, leave, start, within};
+use crate::fact::{Fact, difference};
+use crate::facts::{closed, plain_fact, stated_fact};
+use crate::justifications::{line_cause, metas_of_claim};
+use crate::lines::{PlacedLine, lines_of};
+use mu_decl::{Context, Statement};
 use mu_proof::{Item, Proof};
 use mu_tables::Work;
-use mu_tree::{Name, NoMemory, Sequence, Tree, TypedVar, Why};
+use mu_tree::{Name, NoMemory, Tree, Why};
 use std::alloc::Global;
 
 fn blame(alloc: Global, label: &Name, cause: Cause) -> Result<Verdict, NoMemory>
@@ -82,7 +81,12 @@ fn line_fault<C: Context>(
     ensures hyps { OnOk result (environment.new.hyps ≡ environment.old.hyps) }
     ensures after { IfOk result (λ verdict. verdict ≡ None → environment.new ≡ with_item label.now (plain_fact environment.old.scope tree.now) environment.old) }
 {
-    if let Some(cause) = line_cause(alloc, context, allowed, environment, tree, why)? {
+    let line = PlacedLine {
+        allowed,
+        environment,
+        tree,
+    };
+    if let Some(cause) = line_cause(alloc, context, line, why)? {
         return blame(alloc, label, cause);
     }
     let gives = plain_fact(alloc, &environment.scope, tree)?;
@@ -96,50 +100,39 @@ fn open_block<C: Context>(
     context: &C,
     allowed: &Allowed,
     environment: &mut Environment,
-    label: &Name,
-    vars: &[TypedVar],
-    assumptions: &[Tree],
+    head: BlockHead,
 ) -> Result<Verdict, NoMemory>
-    ensures fault { IfOk result (λ verdict. verdict ≡ labelled label.now (block_cause (C.world context.now) allowed.now environment.old.scope vars.now assumptions.now)) }
+    ensures fault { IfOk result (λ verdict. verdict ≡ labelled head.entry.label.now (block_cause (C.world context.now) allowed.now environment.old.scope head.entry.vars.now head.entry.assumptions.now)) }
     ensures hyps { OnOk result (environment.new.hyps ≡ environment.old.hyps) }
-    ensures entered { IfOk result (λ verdict. verdict ≡ None → environment.new ≡ within label.now vars.now assumptions.now environment.old) }
+    ensures entered { IfOk result (λ verdict. verdict ≡ None → environment.new ≡ within head.entry.label.now head.entry.vars.now head.entry.assumptions.now environment.old) }
 {
-    match block_cause(
-        alloc,
-        context,
-        allowed,
-        &environment.scope,
-        vars,
-        assumptions,
-    )? {
-        Some(cause) => blame(alloc, label, cause),
-        None => {
-            within(alloc, environment, label, vars, assumptions)?;
-            Ok(None)
-        }
+    if let Some(cause) = block_cause(alloc, context, allowed, &environment.scope, head)? {
+        return blame(alloc, head.label, cause);
     }
+    within(alloc, environment, head)?;
+    Ok(None)
 }
 
-/// Adds a block that was left, where it ends with a line.
+/// Leaves a block, which may be cited from now on if it ends with a line.
 fn close_block(
     alloc: Global,
     environment: &mut Environment,
-    label: &Name,
-    vars: &[TypedVar],
-    assumptions: &[Tree],
+    outer: Extent,
+    head: BlockHead,
     last: Option<&Tree>,
 ) -> Result<Verdict, NoMemory>
-    ensures fault { IfOk result (λ verdict. verdict ≡ labelled label.now (ending_cause (option_copied last.entry))) }
+    ensures fault { IfOk result (λ verdict. verdict ≡ labelled head.entry.label.now (ending_cause (option_copied last.entry))) }
     ensures hyps { OnOk result (environment.new.hyps ≡ environment.old.hyps) }
-    ensures after { IfOk result (λ verdict. verdict ≡ None → environment.new ≡ with_block label.now vars.now assumptions.now (option_copied last.entry) environment.old) }
+    ensures after { IfOk result (λ verdict. verdict ≡ None → environment.new ≡ with_block head.entry.label.now head.entry.vars.now head.entry.assumptions.now (option_copied last.entry) (left outer environment.old)) }
 {
+    leave(environment, outer);
     match last {
         Some(last) => {
-            let gives = closed(alloc, &environment.scope, vars, assumptions, last)?;
-            add_item(alloc, environment, label, gives)?;
+            let gives = closed(alloc, &environment.scope, head.vars, head.assumptions, last)?;
+            add_item(alloc, environment, head.label, gives)?;
             Ok(None)
         }
-        None => blame(alloc, label, Cause::Unfinished),
+        None => blame(alloc, head.label, Cause::Unfinished),
     }
 }
 
@@ -168,40 +161,22 @@ fn item_fault<C: Context>(
             assumptions,
             items,
         } => {
-            let scope = environment.scope.len();
-            let blocks = environment.blocks.len();
-            let known = environment.items.len();
             let vars = vars.items();
             let assumptions = assumptions.as_slice();
-            if let Some(found) = open_block(
-                alloc,
-                context,
-                allowed,
-                environment,
+            let head = BlockHead {
                 label,
                 vars,
                 assumptions,
-            )? {
+            };
+            let items = items.as_slice();
+            let outer = extent_of(environment);
+            if let Some(found) = open_block(alloc, context, allowed, environment, head)? {
                 return Ok(Some(found));
             }
-            if let Some(found) = items_fault(
-                alloc,
-                context,
-                allowed,
-                environment,
-                items.as_slice(),
-            )? {
+            if let Some(found) = items_fault(alloc, context, allowed, environment, items)? {
                 return Ok(Some(found));
             }
-            leave(environment, scope, blocks, known);
-            close_block(
-                alloc,
-                environment,
-                label,
-                vars,
-                assumptions,
-                last_line(items.as_slice()),
-            )
+            close_block(alloc, environment, outer, head, last_line(items))
         }
     }
 }
@@ -235,17 +210,11 @@ fn conclusion_cause(
 ) -> Result<Option<Cause>, NoMemory>
     ensures { IfOk result (λ cause. cause ≡ conclusion_cause conclusion.now (option_copied last.entry)) }
 {
-    let last = match last {
-        Some(last) => last,
-        None => return Ok(Some(Cause::Unfinished)),
+    let Some(last) = last else {
+        return Ok(Some(Cause::Unfinished));
     };
-    let scope = Sequence::new(alloc);
-    let line = plain_fact(alloc, &scope, last)?;
-    if is_equal(&line, conclusion) {
-        Ok(None)
-    } else {
-        Ok(Some(Cause::ConclusionDiffers))
-    }
+    let said = stated_fact(alloc, last)?;
+    Ok(difference(&said, conclusion))
 }
 
 /// What the proofs of a rule are checked against: its claim, entered once for all of them.
@@ -276,18 +245,16 @@ fn allowed_by<C: Context>(
     ensures { IfOk result (λ allowed. allowed ≡ allowed_by (C.world context.now) statement.now) }
 {
     let seen = context.seen(alloc, &statement.theory)?;
-    let found = claim_occurrences(alloc, context, &statement.claim)?;
-    let metas = Metas::new(alloc, found)?;
+    let metas = metas_of_claim(alloc, context, &statement.claim)?;
     Ok(Allowed { seen, metas })
 }
 
 fn goal_by<C: Context>(alloc: Global, context: &C, statement: &Statement) -> Result<Goal, NoMemory>
     ensures { IfOk result (λ goal. goal ≡ goal_by (C.world context.now) statement.now) }
 {
-    let scope = Sequence::new(alloc);
+    let conclusion = stated_fact(alloc, &statement.claim.conclusion)?;
     let allowed = allowed_by(alloc, context, statement)?;
     let environment = start(alloc, &statement.claim)?;
-    let conclusion = plain_fact(alloc, &scope, &statement.claim.conclusion)?;
     Ok(Goal {
         allowed,
         environment,
@@ -318,7 +285,12 @@ fn goal_fault<C: Context>(
     ensures fault { IfOk result (λ verdict. verdict ≡ goal_fault (C.world context.now) goal.old items.now) }
     ensures kept { OnOk result (KeepsGoal goal.old goal.new) }
 {
-    leave(&mut goal.environment, 0, 0, 0);
+    let nothing = Extent {
+        scope: 0,
+        blocks: 0,
+        items: 0,
+    };
+    leave(&mut goal.environment, nothing);
     if let Some(found) = items_fault(alloc, context, &goal.allowed, &mut goal.environment, items)? {
         return Ok(Some(found));
     }
@@ -364,9 +336,9 @@ impl Checker {
         ensures checker { IfOk result (λ checker. IsChecker (C.world context.now) checker) }
         ensures rule { IfOk result (λ checker. checker.rule ≡ rule.now) }
     {
+        let name = rule.copy(alloc)?;
         let goal = goal_of(alloc, context, rule)?;
-        let rule = rule.copy(alloc)?;
-        Ok(Checker { rule, goal })
+        Ok(Checker { rule: name, goal })
     }
 
     /// The verdict on a proof of the rule, in the context that the checker was made in.
@@ -389,6 +361,7 @@ impl Checker {
     ) -> Result<Verdict, NoMemory>
         requires { IsChecker (C.world context.now) self.old }
         ensures work { work.new.lines ≡ raised work.old.lines (lines_of proof.now) }
+        ensures grows { work.old.lines ≤ work.new.lines }
         ensures verdict { IfOk result (λ found. found ≡ verdict (C.world context.now) self.old.rule proof.now) }
         ensures kept { OnOk result (IsChecker (C.world context.now) self.new) }
         ensures rule { OnOk result (self.new.rule ≡ self.old.rule) }
@@ -400,8 +373,10 @@ impl Checker {
 
 /// Counts the lines of a proof as work.
 fn count(proof: &Proof, work: &mut Work)
-    ensures { work.new.lines ≡ raised work.old.lines (lines_of proof.now) }
+    ensures work { work.new.lines ≡ raised work.old.lines (lines_of proof.now) }
+    ensures grows { work.old.lines ≤ work.new.lines }
 {
+    let _before = work.lines();
     work.add_lines(lines_of(proof.items()));
 }
 

@@ -7,24 +7,13 @@ use Rattle.std.specs.Cmp.Lexicographic.{pointwise, slice_cmp, same_text, nat_lis
 use Rattle.std.specs.FinMap as finite
 use Rattle.std.proofs.lemmas.Bool.{both_ways, cases_Bool, and_parts, and_from, or_cases, or_left, or_right, not-true, not_from_false, eqb-true, eq-eqb}
 use Rattle.mu_tree.specs.Maps.{MapOf}
-use Rattle.mu_tree.specs.declared.claim.Kind.{Kind}
-use Rattle.mu_tree.specs.declared.claim.Kind.TheVariants.{E, T}
 use Rattle.mu_tree.proofs.MapLemmas.{same_name, get-insert_here, get-insert_other, inserted}
 use Rattle.mu_decl.specs.declared.arities.Arity.{Arity}
 use Rattle.mu_decl.specs.declared.occurring.Occurrence.{Occurrence}
 use Rattle.mu_decl.specs.Formation.{same_kind}
 use Rattle.mu_decl.specs.Claims.{agree, agrees}
 use Rattle.mu_decl.specs.Arities.{arity_of, has_arity, with_arity_at, with_arity, agree_in_turn}
-
-kind_is : (a b : Kind) → same_kind a b ≡ true → a ≡ b
-kind_is E E e = refl
-kind_is T T e = refl
-kind_is E T e = cc
-kind_is T E e = cc
-
-kind_itself : (a : Kind) → same_kind a a ≡ true
-kind_itself E = refl
-kind_itself T = refl
+use Rattle.mu_decl.proofs.SameOccurrences.{kind_is, kind_itself}
 
 arity_same : (a b : Arity) → a.count ≡ b.count → a.kind ≡ b.kind → a ≡ b
 arity_same a b c k = λ i. record { count = c i; kind = k i }

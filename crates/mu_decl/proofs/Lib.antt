@@ -13,6 +13,7 @@ pub mod Places
 pub mod Reading
 pub mod Renaming
 pub mod Rests
+pub mod SameOccurrences
 pub mod Substitutions
 pub mod TranslatedEquations
 pub mod Translation

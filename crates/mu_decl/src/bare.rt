@@ -1,5 +1,6 @@
 ghost use Rattle.std.specs.Prelude.{◌≡◌, ◌↔◌, IsTrue, IfOk};
 
+use crate::growing::{application, binding, metavariable, place, variable};
 use mu_tree::{Name, NoMemory};
 use sqlite_items::{Boxed, Items};
 use std::alloc::Global;
@@ -36,23 +37,21 @@ impl Bare {
         ensures { IfOk result (λ twin. twin ≡ self.now) }
     {
         match self {
-            Bare::Var(name) => Ok(Bare::Var(name.copy(alloc)?)),
-            Bare::Index(index) => Ok(Bare::Index(*index)),
+            Bare::Var(name) => variable(alloc, name),
+            Bare::Index(index) => Ok(place(*index)),
             Bare::App(name, arguments) => {
-                let name = name.copy(alloc)?;
                 let arguments = Bare::copy_all(alloc, arguments.as_slice())?;
-                Ok(Bare::App(name, arguments))
+                application(alloc, name, arguments)
             }
             Bare::Meta(name, arguments) => {
-                let name = name.copy(alloc)?;
                 let arguments = Bare::copy_all(alloc, arguments.as_slice())?;
-                Ok(Bare::Meta(name, arguments))
+                metavariable(alloc, name, arguments)
             }
-            Bare::Bind(binder, domain, body) => Ok(Bare::Bind(
-                binder.copy(alloc)?,
-                Boxed::new(alloc, domain.get().copy(alloc)?)?,
-                Boxed::new(alloc, body.get().copy(alloc)?)?,
-            )),
+            Bare::Bind(binder, domain, body) => {
+                let domain = domain.get().copy(alloc)?;
+                let body = body.get().copy(alloc)?;
+                binding(alloc, binder, domain, body)
+            }
         }
     }
 

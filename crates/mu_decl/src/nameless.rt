@@ -1,10 +1,11 @@
 ghost use Rattle.std.specs.Prelude.{◌≡◌, IfOk, OnOk, map};
-ghost use Rattle.mu_decl.specs.Nameless.{nameless, leaf, place};
+ghost use Rattle.mu_decl.specs.Nameless.{nameless, applied, leaf, place};
 ghost use Rattle.mu_decl.specs.Laws.{RenamingIsFree, EnteredIsClosed};
 
 use crate::bare::{Bare, Bares};
+use crate::growing::{application, binding, metavariable};
 use mu_tree::{Duplicate, Name, Names, NoMemory, Tree};
-use sqlite_items::{Boxed, Items};
+use sqlite_items::Items;
 use std::alloc::Global;
 
 /// The nameless tree of `tree` where the names of `scope` are variables and the tree stands under binders of the
@@ -35,18 +36,12 @@ fn under(alloc: Global, tree: &Tree, scope: &Names, bound: &mut Names) -> Result
 {
     match tree {
         Tree::App(name, arguments) => {
-            if arguments.is_empty() {
-                leaf(alloc, name, scope, bound)
-            } else {
-                let name = name.copy(alloc)?;
-                let arguments = under_all(alloc, arguments.as_slice(), scope, bound)?;
-                Ok(Bare::App(name, arguments))
-            }
+            let arguments = under_all(alloc, arguments.as_slice(), scope, bound)?;
+            applied(alloc, name, arguments, scope, bound)
         }
         Tree::Meta(name, arguments) => {
-            let name = name.copy(alloc)?;
             let arguments = under_all(alloc, arguments.as_slice(), scope, bound)?;
-            Ok(Bare::Meta(name, arguments))
+            metavariable(alloc, name, arguments)
         }
         Tree::Bind {
             binder,
@@ -54,13 +49,12 @@ fn under(alloc: Global, tree: &Tree, scope: &Names, bound: &mut Names) -> Result
             dom,
             body,
         } => {
-            let binder = binder.copy(alloc)?;
             let domain = under(alloc, dom.get(), scope, bound)?;
             let outer = bound.len();
             bound.push(var.copy(alloc)?)?;
             let body = under(alloc, body.get(), scope, bound)?;
             bound.truncate(outer);
-            Ok(Bare::Bind(binder, Boxed::new(alloc, domain)?, Boxed::new(alloc, body)?))
+            binding(alloc, binder, domain, body)
         }
     }
 }
@@ -80,6 +74,23 @@ fn under_all(
         all.push(under(alloc, tree, scope, bound)?)?;
     }
     Ok(all)
+}
+
+/// A name with its arguments.
+fn applied(
+    alloc: Global,
+    name: &Name,
+    arguments: Bares,
+    scope: &Names,
+    bound: &Names,
+) -> Result<Bare, NoMemory>
+    ensures { IfOk result (λ bare. bare ≡ applied scope.now bound.now name.now arguments) }
+{
+    if arguments.is_empty() {
+        leaf(alloc, name, scope, bound)
+    } else {
+        application(alloc, name, arguments)
+    }
 }
 
 #[tactic(auto, unfolding(crate::specs::Nameless::place))]

@@ -281,14 +281,29 @@ fn is_index(tree: &Bare, index: u64) -> bool
 fn lowered(alloc: Global, tree: &Bare, by: u64) -> Result<Option<Bare>, NoMemory>
     ensures { IfOk result (λ found. MatchOption found ((outer : Bare) → shift_under by 0 outer ≡ tree.now → ⊥) (λ low. (outer : Bare) → (outer ≡ low) ↔ (shift_under by 0 outer ≡ tree.now))) }
 {
-    let binders = placeholders(alloc, by)?;
-    let low = opened(alloc, tree, &binders)?;
-    let back = shifted(alloc, &low, by)?;
-    if same(&back, tree) {
+    let low = taken_out(alloc, tree, by)?;
+    if is_put_back(alloc, &low, by, tree)? {
         Ok(Some(low))
     } else {
         Ok(None)
     }
+}
+
+/// The tree, taken out from under `by` binders as far as it goes.
+fn taken_out(alloc: Global, tree: &Bare, by: u64) -> Result<Bare, NoMemory>
+    ensures { IfOk result (λ low. (trees : List Bare) × (length trees ≡ by) × (low ≡ opened trees tree.now)) }
+{
+    let binders = placeholders(alloc, by)?;
+    let low = opened(alloc, tree, &binders)?;
+    Ok(low)
+}
+
+/// Whether a tree that is put under `by` binders is this one.
+fn is_put_back(alloc: Global, low: &Bare, by: u64, tree: &Bare) -> Result<bool, NoMemory>
+    ensures { IfOk result (λ yes. IsTrue yes ↔ (shift_under by 0 low.now ≡ tree.now)) }
+{
+    let back = shifted(alloc, low, by)?;
+    Ok(same(&back, tree))
 }
 
 /// Some trees, as many as `count`.

@@ -3,8 +3,9 @@ ghost use Rattle.mu_decl.specs.Translating.{image, translated};
 ghost use Rattle.mu_decl.specs.Laws.{TranslationOpens, TranslationInstantiates};
 
 use crate::bare::{Bare, Bares};
+use crate::growing::{application, binding, metavariable, place, variable};
 use mu_tree::{Name, NoMemory, Table};
-use sqlite_items::{Boxed, Items};
+use sqlite_items::Items;
 use std::alloc::Global;
 
 /// The tree with its constants and binders renamed by a finite map. Those that it has nothing for stay, and so do
@@ -31,23 +32,21 @@ fn translated(alloc: Global, tree: &Bare, names: &Table<Name>) -> Result<Bare, N
     ensures { IfOk result (λ bare. bare ≡ translated names.now tree.now) }
 {
     match tree {
-        Bare::Var(name) => Ok(Bare::Var(name.copy(alloc)?)),
-        Bare::Index(index) => Ok(Bare::Index(*index)),
+        Bare::Var(name) => variable(alloc, name),
+        Bare::Index(index) => Ok(place(*index)),
         Bare::App(name, arguments) => {
-            let name = image(alloc, name, names)?;
             let arguments = translated_all(alloc, arguments.as_slice(), names)?;
-            Ok(Bare::App(name, arguments))
+            application(alloc, image(name, names), arguments)
         }
         Bare::Meta(name, arguments) => {
-            let name = name.copy(alloc)?;
             let arguments = translated_all(alloc, arguments.as_slice(), names)?;
-            Ok(Bare::Meta(name, arguments))
+            metavariable(alloc, name, arguments)
         }
-        Bare::Bind(binder, domain, body) => Ok(Bare::Bind(
-            image(alloc, binder, names)?,
-            Boxed::new(alloc, translated(alloc, domain.get(), names)?)?,
-            Boxed::new(alloc, translated(alloc, body.get(), names)?)?,
-        )),
+        Bare::Bind(binder, domain, body) => {
+            let domain = translated(alloc, domain.get(), names)?;
+            let body = translated(alloc, body.get(), names)?;
+            binding(alloc, image(binder, names), domain, body)
+        }
     }
 }
 
@@ -62,11 +61,11 @@ fn translated_all(alloc: Global, trees: &[Bare], names: &Table<Name>) -> Result<
     Ok(all)
 }
 
-fn image(alloc: Global, name: &Name, names: &Table<Name>) -> Result<Name, NoMemory>
-    ensures { IfOk result (λ found. found ≡ image names.now name.now) }
+fn image<'a>(name: &'a Name, names: &'a Table<Name>) -> &'a Name
+    ensures { result.now ≡ image names.now name.now }
 {
     match names.get(name) {
-        Some(found) => found.copy(alloc),
-        None => name.copy(alloc),
+        Some(found) => found,
+        None => name,
     }
 }

@@ -1,4 +1,4 @@
-ghost use Rattle.std.specs.Prelude.{◌≡◌, ◌∷◌, ◌++◌, [], map, List, IfOk, OnOk};
+ghost use Rattle.std.specs.Prelude.{◌≡◌, ◌≤◌, ◌∷◌, ◌++◌, [], map, List, IfOk, OnOk};
 ghost use Rattle.std.specs.FinMap as finite;
 ghost use Rattle.std.specs.List.{list_all};
 ghost use Rattle.mu_proof.specs.Citations.{cites};
@@ -62,7 +62,8 @@ fn proof_ways(
     proofs: &Table<Proof>,
     work: &mut Work,
 ) -> Result<Sequence<Citations>, NoMemory>
-    ensures { IfOk result (λ ways. ways ≡ proof_ways store.now rule.now (finite.entries proofs.now)) }
+    ensures value { IfOk result (λ ways. ways ≡ proof_ways store.now rule.now (finite.entries proofs.now)) }
+    ensures work { work.old.lines ≤ work.new.lines }
 {
     let mut ways = Sequence::new(alloc);
     let mut checker = Checker::new(alloc, store, rule)?;
@@ -85,6 +86,7 @@ fn add_way(
     ensures ways { OnOk result (ways.new ≡ ways.old ++ way_by store.now checker.old.rule proof.now) }
     ensures kept { OnOk result (IsChecker (world_of store.now) checker.new) }
     ensures rule { OnOk result (checker.new.rule ≡ checker.old.rule) }
+    ensures work { work.old.lines ≤ work.new.lines }
 {
     if checker.check(alloc, store, proof, work)?.is_none() {
         add_citations(alloc, proof, ways)?;
@@ -111,7 +113,8 @@ pub(crate) fn formed_ways(
     statement: &Statement,
     work: &mut Work,
 ) -> Result<Sequence<Citations>, NoMemory>
-    ensures { IfOk result (λ ways. ways ≡ formed_ways store.now rule.now statement.now) }
+    ensures value { IfOk result (λ ways. ways ≡ formed_ways store.now rule.now statement.now) }
+    ensures work { work.old.lines ≤ work.new.lines }
 {
     let mut ways = Sequence::new(alloc);
     if statement.is_axiom {
@@ -131,7 +134,8 @@ fn ways_to(
     rule: &Name,
     work: &mut Work,
 ) -> Result<Sequence<Citations>, NoMemory>
-    ensures { IfOk result (λ found. found ≡ ways store.now (Rule rule.now)) }
+    ensures value { IfOk result (λ found. found ≡ ways store.now (Rule rule.now)) }
+    ensures work { work.old.lines ≤ work.new.lines }
 {
     let Some(statement) = store.rule(rule) else {
         return Ok(Sequence::new(alloc));
@@ -153,7 +157,8 @@ fn book_of(
 ) -> Result<Book, NoMemory>
     requires own { own ≡ ways store.now (Rule rule.now) }
     requires there { Stands (Rule rule.now) members.now }
-    ensures { IfOk result (λ book. IsBook store.now members.now book.rules) }
+    ensures value { IfOk result (λ book. IsBook store.now members.now book.rules) }
+    ensures work { work.old.lines ≤ work.new.lines }
 {
     let mut rules = Table::new(alloc);
     rules.put(rule.copy(alloc)?, own)?;
@@ -173,7 +178,8 @@ fn add_ways(
     rules: &mut Table<Sequence<Citations>>,
     work: &mut Work,
 ) -> Result<(), NoMemory>
-    ensures { OnOk result ((members : List CitedOf) → IsBook store.now members rules.old → IsBook store.now (members ++ Rule rule.now ∷ []) rules.new) }
+    ensures value { OnOk result ((members : List CitedOf) → IsBook store.now members rules.old → IsBook store.now (members ++ Rule rule.now ∷ []) rules.new) }
+    ensures work { work.old.lines ≤ work.new.lines }
 {
     if rules.has(rule) {
         return Ok(());
@@ -196,7 +202,8 @@ pub(crate) fn is_established(
     work: &mut Work,
 ) -> Result<bool, NoMemory>
     requires { own ≡ ways store.now (Rule rule.now) }
-    ensures { IfOk result (λ yes. yes ≡ is_established store.now rule.now) }
+    ensures value { IfOk result (λ yes. yes ≡ is_established store.now rule.now) }
+    ensures work { work.old.lines ≤ work.new.lines }
 {
     let member = Cited::Rule(rule.copy(alloc)?);
     let mut starts = Vec::new(alloc);

@@ -1,4 +1,4 @@
-ghost use Rattle.std.specs.Prelude.{◌≡◌, Some, IfOk};
+ghost use Rattle.std.specs.Prelude.{◌≡◌, ◌≤◌, Some, IfOk};
 ghost use Rattle.std.specs.FinMap as finite;
 ghost use Rattle.std.specs.List.{list_any};
 ghost use Rattle.mu_flat.specs.ProofTables.{proofs_of};
@@ -45,7 +45,7 @@ impl RuleStatus {
 }
 
 /// The status of the rule of a name, none exactly where there is no such rule. The lines of the proofs that are checked
-/// for it count as work.
+/// for it count as work, which never falls.
 ///
 /// # Errors
 ///
@@ -57,6 +57,7 @@ pub fn status(
     work: &mut Work,
 ) -> Result<Option<RuleStatus>, NoMemory>
     ensures value { IfOk result (λ status. status ≡ status_at store.now rule.now) }
+    ensures work { work.old.lines ≤ work.new.lines }
     ensures laws { StatusesAreExact }
 {
     match store.rule(rule) {
@@ -74,7 +75,8 @@ fn status_of(
     work: &mut Work,
 ) -> Result<RuleStatus, NoMemory>
     requires { finite.get store.now.rules rule.now ≡ Some statement.now }
-    ensures { IfOk result (λ status. status ≡ status_of store.now rule.now statement.now) }
+    ensures value { IfOk result (λ status. status ≡ status_of store.now rule.now statement.now) }
+    ensures work { work.old.lines ≤ work.new.lines }
 {
     if !well_formed(alloc, store, &statement.theory, &statement.claim)? {
         return Ok(RuleStatus::IllFormed);

@@ -10,8 +10,8 @@ use Rattle.mu_status.specs.Statuses.{checks}
 use Rattle.mu_status.proofs.BookLemmas.{none_stored}
 use Rattle.mu_status.proofs.books.formed_ways.Goals as goal
 
-pub returns-in-None : goal.returns-in-None
-returns-in-None c =
+pub returns-in-None-clause-value : goal.returns-in-None-clause-value
+returns-in-None-clause-value c =
     let none : finite.get c.args.store.now.proofs c.args.rule.now ≡ None = grind (arith, common_steps) in
     let by_proofs = λ (entries : List (List ℕ × List Item)). map (λ entry. cites entry.1) (filter (checks c.args.store.now c.args.rule.now) entries) in
     c.new-ways.ensures

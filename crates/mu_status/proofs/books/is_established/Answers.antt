@@ -19,15 +19,15 @@ book_of-requires c =
       there = subst (Stands (Rule rule)) (sym c.as_slice.ensures.value) ((c.in_ok-order.ensures.keys (Rule rule)).1 (inl (subst (Stands (Rule rule)) (sym starts) (inl refl))));
     }
 
-pub returns : goal.returns
-returns c =
+pub returns-clause-value : goal.returns-clause-value
+returns-clause-value c =
     let rule = c.args.rule.now in
     let order = c.in_ok-order.order.items in
     let starts : c.push.new.self.items ≡ Rule rule ∷ [] = grind (arith, common_steps) in
     let reach : (n : Cited) → Stands n order ↔ IsLedTo (leads c.args.store.now.proofs) (Rule rule ∷ []) n =
     λ n. subst (λ from. Stands n order ↔ IsLedTo (leads c.args.store.now.proofs) from n) starts
     (subst (λ proofs. Stands n order ↔ IsLedTo (leads proofs) c.push.new.self.items n) c.proofs.ensures (c.in_ok-order.ensures.keys n)) in
-    let book : IsBook c.args.store.now order c.in_ok-book.book.rules = subst (λ members. IsBook c.args.store.now members c.in_ok-book.book.rules) c.as_slice.ensures.value c.in_ok-book.ensures in
+    let book : IsBook c.args.store.now order c.in_ok-book.book.rules = subst (λ members. IsBook c.args.store.now members c.in_ok-book.book.rules) c.as_slice.ensures.value c.in_ok-book.ensures.value in
     let told : c.has.result ≡ is_marked c.in_ok-marks.marks.rules c.in_ok-marks.marks.morphisms (Rule rule) = grind (arith, common_steps) in
     told ∙ book_decides c.args.store.now rule order c.in_ok-book.book.rules (is_marked c.none.result.rules c.none.result.morphisms) (is_marked c.in_ok-marks.marks.rules c.in_ok-marks.marks.morphisms)
     reach book c.none.ensures c.in_ok-marks.ensures

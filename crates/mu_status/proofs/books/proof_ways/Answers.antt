@@ -1,4 +1,4 @@
-use Rattle.std.proofs.Common.{◌∙◌, sym, ap, map, List, ℕ, ◌++◌, [], ◌∷◌}
+use Rattle.std.proofs.Common.{arith, ◌∙◌, sym, ap, map, List, ℕ, ◌++◌, [], ◌∷◌}
 use Rattle.std.specs.Map.Iter.{deref_pair}
 use Rattle.std.proofs.lemmas.List.{map-append}
 use Rattle.mu_proof.specs.declared.citations.Cited.{Cited}
@@ -21,4 +21,5 @@ loop-entry-preserved c =
           ∙ ap (proof_ways e r) (sym (map-append deref_pair c.loop-entry.yielded (c.in-Some.entry ∷ [])));
       checker = c.in_ok-add_way.ensures.kept;
       rule = c.in_ok-add_way.ensures.rule ∙ c.loop-entry.invariant.rule;
+      work = omega arith;
     }

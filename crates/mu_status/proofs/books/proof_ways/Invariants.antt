@@ -1,4 +1,4 @@
-use Rattle.std.proofs.Common.{◌≡◌, map}
+use Rattle.std.proofs.Common.{◌≡◌, ◌≤◌, map}
 use Rattle.std.specs.Map.Iter.{deref_pair}
 use Rattle.mu_check.specs.Goals.{IsChecker}
 use Rattle.mu_flat.specs.Entries.{world_of}
@@ -10,4 +10,5 @@ invariant-loop-entry l = record {
   ways : l.ways ≡ proof_ways l.store l.rule (map deref_pair l.yielded);
   checker : IsChecker (world_of l.store) l.checker;
   rule : l.checker.rule ≡ l.rule;
+  work : l.initial.work.lines ≤ l.work.lines;
 }
