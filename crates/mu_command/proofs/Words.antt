@@ -73,8 +73,7 @@ module _ {A : Type 0} (lookup : List ℕ → Option A) (is_front : List ℕ → 
   -- the words of all that is left of a text
   begin : (front : List ℕ) → HasText lookup front → Begins (SomeWords lookup front) []
   begin front (more, x, e) =
-      let parts = cut more in
-      (
+      let parts = cut more in (
         map (word Plain) (parts.0 ∷ parts.1),
         x,
         record {

@@ -1,10 +1,10 @@
 -- The forms of commands, and the words that each begins with.
-use Rattle.std.specs.Prelude.{ℕ, ◌==◌, List, [], ◌∷◌, Bool, Option, Some, option_and_then, find, ◌≡◌, ◌↔◌, ◌++◌, map}
+use Rattle.std.specs.Prelude.{ℕ, ◌==◌, List, [], ◌∷◌, Bool, Option, Some, option_and_then, find, ◌≡◌, map}
 use Rattle.std.specs.List.{join_with_byte, slice_split}
 use Rattle.mu_tables.specs.Words.{number_of, some_begins, text_of}
 use Rattle.mu_tables.specs.Tables.{the_forms}
 use Rattle.mu_grammar.specs.declared.symbol.Word.TheVariants.{Plain}
-use Rattle.mu_grammar.specs.Lexemes.{Lexeme, word, items_of}
+use Rattle.mu_grammar.specs.Lexemes.{Lexeme, word}
 use Rattle.mu_grammar.specs.Parts.{Out}
 use Rattle.mu_command.specs.Words.{read_words}
 use Rattle.mu_command.specs.declared.forms.Form.{Form}
