@@ -9,7 +9,7 @@ use crate::trees::tree;
 use mu_tree::{Bytes, Claim, NoMemory, Tree, Why};
 use std::alloc::Global;
 
-/// The canonical text of a tree: what it reads as is the tree again, and no parenthesis in it can be left out.
+/// The canonical text of a tree. A tree that some text reads as is read back from it, and no pair of parentheses in it can be left out.
 ///
 /// # Errors
 ///
@@ -25,7 +25,7 @@ pub fn print_tree(alloc: Global, printed: &Tree) -> Result<Bytes, NoMemory>
     Ok(Bytes::from_vec(text))
 }
 
-/// The canonical text of a claim: what it reads as is the claim again.
+/// The canonical text of a claim. A claim that some text reads as is read back from it.
 ///
 /// # Errors
 ///
@@ -40,7 +40,7 @@ pub fn print_claim(alloc: Global, printed: &Claim) -> Result<Bytes, NoMemory>
     Ok(Bytes::from_vec(text))
 }
 
-/// The canonical text of what a line holds by: what it reads as is the same again.
+/// The canonical text of what a line holds by. What some text reads as is read back from it.
 ///
 /// # Errors
 ///
