@@ -1,5 +1,5 @@
 -- What is printed of a spelled value lexes to tokens that spell a value with the same meaning.
-use Rattle.std.proofs.Common.{◌≡◌, ℕ, Bool, true, List, [], ◌∷◌, ◌++◌, map, refl, ap, sym, ◌∙◌, subst, append_assoc, append-nil}
+use Rattle.std.proofs.Common.{◌≡◌, ℕ, List, [], ◌∷◌, ◌++◌, map, refl, ap, sym, ◌∙◌, subst, append_assoc, append-nil}
 use Rattle.std.specs.Prelude.{Ok}
 use Rattle.std.specs.List.{flat_map}
 use Rattle.mu_grammar.specs.declared.symbol.Mark.{Mark}
@@ -8,7 +8,7 @@ use Rattle.mu_grammar.specs.Parts.{More, Separated}
 use Rattle.mu_grammar.specs.Writings.{Writing}
 use Rattle.mu_grammar.specs.Excesses.{excess_of, no_excess, in_each}
 use Rattle.mu_grammar.specs.Limits.{WithinToken, WithinTokens}
-use Rattle.mu_grammar.specs.Texts.{IsOfLanguage, ReadsText, has_short_tokens}
+use Rattle.mu_grammar.specs.Texts.{IsOfLanguage, ReadsText}
 use Rattle.mu_grammar.proofs.Together.{all_parts, all_together, none_together, none_of_both}
 use Rattle.mu_grammar.proofs.Within.{line_kept}
 use Rattle.mu_print.specs.Sound.{SoundLexeme, SoundLexemes, RightLexeme, RightLexemes}

@@ -1,14 +1,13 @@
 -- The canonical text of a claim reads back.
-use Rattle.std.proofs.Common.{◌≡◌, ℕ, List, [], ◌∷◌, ◌++◌, map, refl, ap, sym, ◌∙◌, subst, append_assoc}
+use Rattle.std.proofs.Common.{◌≡◌, ℕ, List, [], ◌∷◌, ◌++◌, map, refl, ap, ◌∙◌, subst, append_assoc}
 use Rattle.std.specs.Prelude.{codes}
 use Rattle.mu_tree.specs.declared.claim.Hyp.TheVariants as hyp
 use Rattle.mu_grammar.specs.declared.symbol.Mark.TheVariants.{Semicolon, Turnstile}
-use Rattle.mu_grammar.specs.Tokens.{first_token}
 use Rattle.mu_grammar.specs.Lexemes.{Lexeme, mark}
 use Rattle.mu_grammar.specs.Parts.{Separated}
 use Rattle.mu_grammar.specs.Writings.{Writing, tree_of}
 use Rattle.mu_grammar.specs.Trees.{OneTree}
-use Rattle.mu_grammar.specs.Claims.{Hypothesis, plain, Sentence, IsHypothesis, Claims, IsClaim, hyp_of, claim_of, trees_in_hypothesis, trees_in_claim}
+use Rattle.mu_grammar.specs.Claims.{Hypothesis, plain, IsHypothesis, Claims, IsClaim, hyp_of, claim_of, trees_in_hypothesis, trees_in_claim}
 use Rattle.mu_grammar.specs.Excesses.{excess_of, no_excess, in_each, one_tree}
 use Rattle.mu_grammar.specs.Limits.{WithinToken, WithinTokens}
 use Rattle.mu_grammar.proofs.Together.{all_parts, all_together, none_together, none_of_both}
@@ -16,8 +15,7 @@ use Rattle.mu_print.specs.Canonical.{tree_text}
 use Rattle.mu_print.specs.Texts.{between, hypothesis_text, claim_text}
 use Rattle.mu_print.specs.Laws.{ClaimsReadBack}
 use Rattle.mu_print.specs.Sound.{SoundLexeme, SoundLexemes, RightLexeme}
-use Rattle.mu_print.proofs.Scan.{scan}
-use Rattle.mu_print.proofs.Again.{Lexes, LexesAlways, lexes-behind, lexes-before, Printed, Reprints, reads_back, reprints_separated}
+use Rattle.mu_print.proofs.Again.{Lexes, lexes-behind, lexes-before, Printed, Reprints, reads_back, reprints_separated}
 use Rattle.mu_print.proofs.Separators.{semicolon_run, turnstile_run}
 use Rattle.mu_print.proofs.TreesBack.{reprints_tree}
 

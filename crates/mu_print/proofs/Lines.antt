@@ -1,31 +1,25 @@
 -- The words of a line are sound, and whether its names are within the limit can be read off its tokens.
-use Rattle.std.proofs.Common.{◌≡◌, ℕ, suc, ◌+◌, ◌≤◌, Bool, true, false, cond, List, [], ◌∷◌, ◌++◌, length, drop, map, refl, ap, sym, ◌∙◌, subst, arith}
-use Rattle.std.specs.Prelude.{if◌then◌else◌, nat_le, ◌&&◌, ◌==◌, codes}
+use Rattle.std.proofs.Common.{◌≡◌, ℕ, suc, ◌≤◌, true, false, List, [], ◌∷◌, length, map, refl, ap, sym, ◌∙◌, subst, arith}
+use Rattle.std.specs.Prelude.{nat_le, ◌==◌, codes}
 use Rattle.std.specs.Bool.{nat_eq}
-use Rattle.std.specs.List.{list_all, prefix_len, slice_split, onto_first, AllByRecursion}
+use Rattle.std.specs.List.{list_all, onto_first, AllByRecursion}
 use Rattle.std.specs.Cmp.Lexicographic.{pointwise}
 use Rattle.std.proofs.lemmas.Bool.{and_parts, and_from, cond_both}
 use Rattle.std.proofs.lemmas.Bool.Decides.{nat_tests}
-use Rattle.std.proofs.lemmas.List.Folds.{list_all-map}
-use Rattle.std.proofs.lemmas.List.Splits.{slice_split_none}
-use Rattle.std.proofs.lemmas.List.Elements.{All-from_recursion}
-use Rattle.std.proofs.lemmas.Simd.{map-map}
 use Rattle.std.proofs.lemmas.Slice.Eq.{bytes_eq-Decides}
-use Rattle.std.proofs.Math.Seq.{take_all}
-use Rattle.mu_tree.specs.Names.{IsName, is_letter, is_digit, is_name_byte, is_segment, is_name, is_short, segments}
+use Rattle.mu_tree.specs.Names.{is_letter, is_name_byte, is_segment, is_short, segments}
 use Rattle.mu_grammar.specs.declared.token.TokenSort.{TokenSort}
 use Rattle.mu_grammar.specs.declared.token.TokenSort.TheVariants.{Name, Meta, Place, Symbol, Wrong}
 use Rattle.mu_grammar.specs.declared.symbol.Word.TheVariants as head
 use Rattle.mu_grammar.specs.declared.symbol.Mark.TheVariants as sign
 use Rattle.mu_grammar.specs.declared.symbol.Sort.{Sort}
 use Rattle.mu_grammar.specs.declared.symbol.Sort.TheVariants as sort
-use Rattle.mu_grammar.specs.Tokens.{run_length, dots, tokens}
-use Rattle.mu_grammar.specs.Lexemes.{Lexeme, item, items_of, item_of, sort_in, word_in, name_word, name_sort}
+use Rattle.mu_grammar.specs.Tokens.{tokens}
+use Rattle.mu_grammar.specs.Lexemes.{Lexeme, items_of, item_of, name_sort}
 use Rattle.mu_grammar.specs.Limits.{WithinToken, WithinTokens}
-use Rattle.mu_grammar.specs.Texts.{segments_of, is_short_token, has_short_tokens}
+use Rattle.mu_grammar.specs.Texts.{segments_of, has_short_tokens}
 use Rattle.mu_grammar.proofs.Bare.{Bare, bare, Spelled, IsSpelled, line_spelled}
 use Rattle.mu_grammar.proofs.Numbers.{place_text, full_prefix}
-use Rattle.mu_grammar.proofs.Runs.{are_segments-letter, is_rest, is_rest-take_run, length-segments}
 use Rattle.mu_grammar.proofs.Within.{piece, pieces_of, is_short_bare, short_bares}
 use Rattle.mu_print.specs.Sound.{SoundLexeme, SoundLexemes, RightLexeme, RightLexemes}
 

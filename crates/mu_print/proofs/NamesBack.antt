@@ -1,26 +1,22 @@
 -- What is printed of names and of references reads back.
-use Rattle.std.proofs.Common.{◌≡◌, ℕ, zero, suc, ◌+◌, List, [], ◌∷◌, ◌++◌, Option, Some, None, map, refl, ap, sym, ◌∙◌, subst, append-nil, arith}
+use Rattle.std.proofs.Common.{◌≡◌, ℕ, List, [], ◌∷◌, Option, Some, map, refl, ap, subst}
 use Rattle.std.specs.Prelude.{codes}
 use Rattle.std.specs.Fmt.{decimal}
-use Rattle.mu_tree.specs.declared.why.Ref.{Ref}
 use Rattle.mu_tree.specs.declared.why.Ref.TheVariants as ref
 use Rattle.mu_grammar.specs.declared.symbol.Word.TheVariants.{Plain, Dotted, True, Meta, Place}
-use Rattle.mu_grammar.specs.declared.symbol.Mark.TheVariants.{And, Or, Not, Wrong, Comma, OpenBracket, CloseBracket}
+use Rattle.mu_grammar.specs.declared.symbol.Mark.TheVariants.{And, Or, Not, Comma}
 use Rattle.mu_grammar.specs.Tokens.{first_token}
 use Rattle.mu_grammar.specs.Lexemes.{Lexeme, word, mark}
-use Rattle.mu_grammar.specs.Parts.{OneToken, Separated}
-use Rattle.mu_grammar.specs.SimpleParts.{plain_name_of, name_of, var_of, meta_of, place_of, number_of, AnyName, VarName, MetaName, SomeVars}
-use Rattle.mu_grammar.specs.Groups.{Parameters}
+use Rattle.mu_grammar.specs.Parts.{OneToken}
+use Rattle.mu_grammar.specs.SimpleParts.{plain_name_of, name_of, var_of, place_of, AnyName, VarName, MetaName, SomeVars}
 use Rattle.mu_grammar.specs.References.{IsReference, SomeReferences}
-use Rattle.mu_grammar.specs.Writings.{Writing}
 use Rattle.mu_grammar.specs.Excesses.{excess_of, no_excess, in_each}
-use Rattle.mu_grammar.specs.Limits.{WithinToken, WithinTokens, no_trees}
+use Rattle.mu_grammar.specs.Limits.{WithinTokens, no_trees}
 use Rattle.mu_grammar.proofs.Numbers.{IsPlaceNumber, number_of-decimal, number_of-bounds, place_text-decimal}
-use Rattle.mu_grammar.proofs.Together.{all_parts, all_together}
-use Rattle.mu_print.specs.Texts.{between, surrounded, reference_text}
+use Rattle.mu_print.specs.Texts.{between, reference_text}
 use Rattle.mu_print.specs.Sound.{SoundLexeme, SoundLexemes, RightLexeme}
-use Rattle.mu_print.proofs.Scan.{scan, Stop, run_stop, word_run}
-use Rattle.mu_print.proofs.Again.{Lexes, LexesAlways, KeepsStop, lexes-behind, lexes-before, lexes-nothing, keeps_stop-first, Printed, Reprints, reprints_separated}
+use Rattle.mu_print.proofs.Scan.{run_stop, word_run}
+use Rattle.mu_print.proofs.Again.{Lexes, Printed, Reprints, reprints_separated}
 use Rattle.mu_print.proofs.Separators.{comma_run}
 
 and_run : Lexes (codes "and") (mark And ∷ [])

@@ -1,5 +1,5 @@
 -- The canonical text of what a line holds by reads back.
-use Rattle.std.proofs.Common.{◌≡◌, ℕ, List, [], ◌∷◌, ◌++◌, Some, None, map, refl, ap, sym, ◌∙◌, subst, append_assoc, append-nil}
+use Rattle.std.proofs.Common.{◌≡◌, ℕ, List, [], ◌∷◌, ◌++◌, None, map, refl, ap, sym, ◌∙◌, subst, append_assoc, append-nil}
 use Rattle.std.specs.Prelude.{codes}
 use Rattle.mu_tree.specs.Names.{IsName}
 use Rattle.mu_tree.specs.declared.why.Ref.{Ref}
@@ -8,24 +8,22 @@ use Rattle.mu_tree.specs.declared.why.Why.TheVariants as why
 use Rattle.mu_grammar.specs.declared.symbol.Word.TheVariants.{Plain, Meta}
 use Rattle.mu_grammar.specs.declared.symbol.Mark.{Mark}
 use Rattle.mu_grammar.specs.declared.symbol.Mark.TheVariants.{Semicolon, Becomes, OpenBracket, CloseBracket, Comma}
-use Rattle.mu_grammar.specs.Tokens.{first_token}
 use Rattle.mu_grammar.specs.Lexemes.{Lexeme, word, mark}
 use Rattle.mu_grammar.specs.Parts.{Separated}
-use Rattle.mu_grammar.specs.SimpleParts.{AnyName, GivenWord, SomeVars, name_of}
+use Rattle.mu_grammar.specs.SimpleParts.{SomeVars}
 use Rattle.mu_grammar.specs.Groups.{Parameters}
 use Rattle.mu_grammar.specs.References.{IsReference, SomeReferences}
-use Rattle.mu_grammar.specs.Reasons.{AbstractionWriting, IsAbstraction, SomeAbstractions, given_of, trees_in_abstraction, Reason, by_rule, Led, IsReason, why_of, trees_in_reason}
-use Rattle.mu_grammar.specs.Trees.{OneTree}
+use Rattle.mu_grammar.specs.Reasons.{IsAbstraction, SomeAbstractions, given_of, trees_in_abstraction, by_rule, Led, IsReason, why_of, trees_in_reason}
 use Rattle.mu_grammar.specs.Writings.{Writing, tree_of}
-use Rattle.mu_grammar.specs.Excesses.{excess_of, no_excess, in_each, one_tree}
+use Rattle.mu_grammar.specs.Excesses.{in_each}
 use Rattle.mu_grammar.specs.Limits.{WithinToken, WithinTokens, no_trees}
 use Rattle.mu_grammar.proofs.Together.{all_parts, all_together}
 use Rattle.mu_print.specs.Canonical.{tree_text}
 use Rattle.mu_print.specs.Texts.{between, surrounded, reference_text, abstraction_text, reason_text}
 use Rattle.mu_print.specs.Laws.{ReasonsReadBack}
 use Rattle.mu_print.specs.Sound.{SoundLexeme, SoundLexemes, RightLexeme}
-use Rattle.mu_print.proofs.Scan.{scan, Stop, word_run}
-use Rattle.mu_print.proofs.Again.{Lexes, LexesAlways, Stops, KeepsStop, lexes-behind, lexes-before, lexes-together, lexes-nothing, stops-first, keeps_stop-first, Printed, Reprints, reads_back, reprints_separated}
+use Rattle.mu_print.proofs.Scan.{Stop, word_run}
+use Rattle.mu_print.proofs.Again.{Lexes, LexesAlways, Stops, KeepsStop, lexes-behind, lexes-before, lexes-together, lexes-nothing, stops-first, Printed, Reprints, reads_back, reprints_separated}
 use Rattle.mu_print.proofs.Separators.{semicolon_run, becomes_run, open_bracket_run, close_bracket_run, rule_run, from_run, with_run}
 use Rattle.mu_print.proofs.TreesBack.{reprints_tree}
 use Rattle.mu_print.proofs.NamesBack.{itself, map_itself, no_trees_in, reprints_name, reprints_vars, reprints_references}

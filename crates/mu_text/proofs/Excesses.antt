@@ -1,9 +1,8 @@
 -- The limits that were raised, put together of parts.
 use Rattle.std.proofs.Common.{◌≡◌, ℕ, ◌<◌, ◌≤◌, Bool, true, false, List, [], ◌∷◌, ◌++◌, refl, ap, sym, ◌∙◌, subst, append-nil, arith}
 use Rattle.std.specs.Prelude.{nat_lt, ◌||◌}
-use Rattle.std.specs.List.{list_any, AllByRecursion}
+use Rattle.std.specs.List.{list_any}
 use Rattle.std.proofs.lemmas.Bool.Decides.{nat_tests}
-use Rattle.std.proofs.lemmas.List.Folds.{list_any-append}
 use Rattle.mu_text.specs.declared.operand.Operand.{Operand}
 use Rattle.mu_grammar.specs.declared.excess.Excess.{Excess}
 use Rattle.mu_grammar.specs.Lexemes.{Lexeme}

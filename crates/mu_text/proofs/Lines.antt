@@ -1,31 +1,22 @@
 -- What reading a text by itself says of it.
-use Rattle.std.proofs.Common.{◌≡◌, ℕ, ◌-◌, Bool, true, false, List, [], ◌∷◌, length, drop, refl, ap, sym, ◌∙◌, subst, arith}
-use Rattle.std.specs.Prelude.{◌<◌, ◌≤◌, ◌&&◌, ◌==◌, if◌then◌else◌, nat_le, Result, Ok, Err}
-use Rattle.std.specs.List.{list_all, AllByRecursion}
-use Rattle.std.proofs.lemmas.Bool.{false≢true, and_parts, eqb-true}
-use Rattle.std.proofs.lemmas.Bool.Decides.{nat_tests}
-use Rattle.std.proofs.lemmas.List.Splits.{slice_split_none}
+use Rattle.std.proofs.Common.{◌≡◌, ℕ, ◌-◌, Bool, true, false, List, [], ◌∷◌, length, refl, ap, sym, ◌∙◌, subst, arith}
+use Rattle.std.specs.Prelude.{◌<◌, ◌≤◌, ◌==◌, if◌then◌else◌, Result, Ok, Err}
+use Rattle.std.specs.List.{AllByRecursion}
+use Rattle.std.proofs.lemmas.Bool.{eqb-true}
 use Rattle.std.proofs.lemmas.List.{length-map}
 use Rattle.std.proofs.lemmas.List.Elements.{All-from_recursion}
-use Rattle.mu_tree.specs.Names.{IsName, is_letter, is_name_byte, is_segment, is_name, is_short, segments}
-use Rattle.mu_grammar.specs.declared.symbol.Word.TheVariants as word
-use Rattle.mu_grammar.specs.declared.symbol.Sort.{Sort}
-use Rattle.mu_grammar.specs.declared.symbol.Sort.TheVariants as sort
 use Rattle.mu_grammar.specs.declared.token.Token.{Token}
-use Rattle.mu_grammar.specs.declared.token.TokenSort.{TokenSort}
-use Rattle.mu_grammar.specs.declared.token.TokenSort.TheVariants.{Name, Meta, Place, Symbol, Wrong}
 use Rattle.mu_grammar.specs.declared.fault.PartFault.{PartFault}
 use Rattle.mu_grammar.specs.declared.fault.PartFault.TheVariants as part
 use Rattle.mu_grammar.specs.declared.fault.TextFault.TheVariants as fault
 use Rattle.mu_grammar.specs.declared.excess.Excess.{Excess}
-use Rattle.mu_grammar.specs.Reading.{text_of, is_meta}
 use Rattle.mu_grammar.specs.Tokens.{tokens}
-use Rattle.mu_grammar.specs.Lexemes.{Lexeme, item, items, items_of, item_of, sort_in, word_in}
+use Rattle.mu_grammar.specs.Lexemes.{Lexeme, item, items_of}
 use Rattle.mu_grammar.specs.Parts.{Out, Read, Gives, Refused, End}
 use Rattle.mu_grammar.specs.Writings.{Writing}
 use Rattle.mu_grammar.specs.Excesses.{excess_of, no_excess, Raising}
-use Rattle.mu_grammar.specs.Limits.{WithinToken, WithinTokens, IsMeant}
-use Rattle.mu_grammar.specs.Texts.{segments_of, is_short_token, has_short_tokens, AreWithin, column, ReadsText, within_limits, answer}
+use Rattle.mu_grammar.specs.Limits.{IsMeant}
+use Rattle.mu_grammar.specs.Texts.{has_short_tokens, AreWithin, column, ReadsText, within_limits, answer}
 pub use Rattle.mu_grammar.proofs.Within.{line_kept}
 use Rattle.mu_text.proofs.Exact.{Exact}
 use Rattle.mu_text.proofs.Excesses.{raised-none}
