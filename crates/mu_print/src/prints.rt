@@ -66,7 +66,7 @@ mod tests {
     }
 
     #[test]
-    fn prints_a_claim_and_a_reason(rt: HostRuntime) -> Result<(), Fail> {
+    fn prints_a_tree_a_claim_and_a_reason(rt: HostRuntime) -> Result<(), Fail> {
         let alloc = rt.alloc();
         let mut sides = Trees::new(alloc);
         sides.push(leaf(alloc, b"p")?)?;
@@ -74,6 +74,7 @@ mod tests {
         let mut hyps = Hyps::new(alloc);
         hyps.push(Hyp::Plain(leaf(alloc, b"q")?))?;
         let conclusion = Tree::App(Name::read(alloc, b"imp")?, sides);
+        assert!(rt; print_tree(alloc, &conclusion)?.items() == b"p => q".as_slice());
         let text = print_claim(alloc, &Claim { hyps, conclusion })?;
         assert!(rt; text.items() == b"q |- p => q".as_slice());
         let mut terms = Trees::new(alloc);
