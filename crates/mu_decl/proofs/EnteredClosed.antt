@@ -12,7 +12,7 @@ use Rattle.mu_decl.specs.Nameless.{place, leaf_at, applied, nameless}
 use Rattle.mu_decl.specs.Laws.{every, closed, EnteredIsClosed}
 use Rattle.mu_decl.proofs.EnteringEquations.{nameless-app, nameless-meta, nameless-bind}
 use Rattle.mu_decl.proofs.Closing.{closed-var, closed-index, closed-app, closed-meta, closed-bind, and_true}
-use Rattle.mu_decl.proofs.TreeInduction.{tree_ind}
+use Rattle.mu_tree.proofs.TreeInduction.{tree_ind}
 use Rattle.mu_decl.proofs.Places.{place_get}
 
 module _ (scope : List (List ℕ)) where

@@ -14,7 +14,7 @@ use Rattle.mu_decl.specs.Opening.{open_under}
 use Rattle.mu_decl.proofs.EnteringEquations.{nameless-app, nameless-meta, nameless-bind}
 use Rattle.mu_decl.proofs.OpeningEquations.{shift-var, open-var, open-index, open-app, open-meta, open-bind}
 use Rattle.mu_decl.specs.Laws.{OpeningEnters}
-use Rattle.mu_decl.proofs.TreeInduction.{tree_ind}
+use Rattle.mu_tree.proofs.TreeInduction.{tree_ind}
 use Rattle.mu_decl.proofs.Places.{onto, place-append, place_get, is_among_none, is_among_some}
 
 module _ (scope xs : List (List ℕ)) where

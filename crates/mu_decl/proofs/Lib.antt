@@ -17,7 +17,6 @@ pub mod SameOccurrences
 pub mod Substitutions
 pub mod TranslatedEquations
 pub mod Translation
-pub mod TreeInduction
 pub mod UnfoldedEquations
 pub mod UnfoldedOpened
 pub mod Untouched

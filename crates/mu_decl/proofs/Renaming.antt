@@ -14,7 +14,7 @@ use Rattle.mu_tree.specs.declared.trees.Tree.TheVariants as tree
 use Rattle.mu_decl.specs.Nameless.{place, leaf_at, leaf, applied, nameless}
 use Rattle.mu_decl.proofs.EnteringEquations.{nameless-app, nameless-meta, nameless-bind}
 use Rattle.mu_decl.specs.Laws.{renamed_name, renamed_application, renamed_step, renamed, RenamingIsFree}
-use Rattle.mu_decl.proofs.TreeInduction.{tree_ind}
+use Rattle.mu_tree.proofs.TreeInduction.{tree_ind}
 use Rattle.mu_decl.proofs.Places.{onto, place-is, place-append, is_among_none, is_among_some}
 
 -- a fold into functions of the inner names: its equations by the steps

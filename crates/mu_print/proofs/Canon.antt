@@ -19,7 +19,7 @@ use Rattle.mu_grammar.specs.Ops.{binary, constant_of, is_negation, operator_at, 
 use Rattle.mu_grammar.specs.Writings.{Writing, Writings, leaf, apply, bind, paren, neg, bin, one, more, level, made, tree_of, trees_of, is_head, is_binder, Fits, FitsAll, tokens, IsTree, nodes, deep}
 use Rattle.mu_grammar.proofs.Measures.{size-tree, depth-tree, depth-app, depth-meta, depth-bind, deepest-more}
 use Rattle.mu_print.specs.Canonical.{at_least, together, headed, with_one, with_two, applied, canonical_step, canonical}
-use Rattle.mu_print.proofs.TreeInduction.{tree_ind}
+use Rattle.mu_tree.proofs.TreeInduction.{tree_ind}
 
 pub canonical-app : (name : List ℕ) (ts : List Tree) → canonical (tree.App name ts) ≡ applied name (map canonical ts)
 unfolding canonical

@@ -8,6 +8,5 @@ pub mod PrintingTrees
 pub mod ReasonsBack
 pub mod Scan
 pub mod Separators
-pub mod TreeInduction
 pub mod TreesBack
 pub mod Words
