@@ -2,19 +2,21 @@ ghost use Rattle.std.specs.Prelude.{◌≡◌, ◌++◌, codes, IfOk, OnOk};
 ghost use Rattle.mu_print.specs.Canonical.{tree_text};
 ghost use Rattle.mu_print.specs.Texts.{claim_text, reason_text};
 ghost use Rattle.mu_command.specs.Canonical.{before_text, command_text};
+ghost use Rattle.mu_command.specs.OneText.{TextsTellApart};
 
 use crate::command::Command;
 use mu_tree::{Bytes, Claim, Name, NoMemory, Tree, Why};
 use std::alloc::{AllocError, Global};
 
-/// The canonical text of a command, without the end of a line.
+/// The canonical text of a command, without the end of a line. Of its parts, no two values have one text.
 ///
 /// # Errors
 ///
 /// `NoMemory`.
-#[tactic(auto, unfolding(crate::specs::Canonical::command_text))]
+#[tactic(auto, using(crate::proofs::OneText::texts_tell_apart), unfolding(crate::specs::Canonical::command_text))]
 pub fn print(alloc: Global, command: &Command) -> Result<Bytes, NoMemory>
-    ensures { IfOk result (λ text. text ≡ command_text command.now) }
+    ensures value { IfOk result (λ text. text ≡ command_text command.now) }
+    ensures apart { TextsTellApart }
 {
     let mut out = Vec::new(alloc);
     add_command(&mut out, command)?;

@@ -12,7 +12,7 @@ mod way;
 pub use declared::DeclaredConstant;
 pub use excess::{Excess, MOST_DEPTH, MOST_NODES};
 pub use fault::{PartFault, TextFault};
-pub use ops::{ATOM_LEVEL, Op, PREFIX_LEVEL, constant};
+pub use ops::{ATOM_LEVEL, Op, PREFIX_LEVEL, constant, is_negation};
 pub use symbol::{Mark, Sort, Word};
 pub use token::{Token, TokenSort, text};
 pub use way::{Beginning, Ending, Opening};

@@ -1,13 +1,12 @@
 ghost use Rattle.std.specs.Prelude.{◌≡◌, ◌++◌, OnOk, codes, map};
 ghost use Rattle.mu_tree.specs.declared.trees.Tree.TheVariants as tree_of;
-ghost use Rattle.mu_grammar.specs.Ops.{is_negation as negation_test};
 ghost use Rattle.mu_grammar.specs.Spellings.{mark_text as mark_spelling};
 ghost use Rattle.mu_print.specs.Canonical.{tree_text};
 ghost use Rattle.mu_print.specs.Operands.{level_of, operand_text};
 ghost use Rattle.mu_print.specs.Texts.{surrounded};
 
 use crate::pieces::add;
-use mu_grammar::{ATOM_LEVEL, Mark, Op, PREFIX_LEVEL, constant};
+use mu_grammar::{ATOM_LEVEL, Mark, Op, PREFIX_LEVEL, is_negation};
 use mu_tree::Tree;
 use std::alloc::AllocError;
 
@@ -157,12 +156,6 @@ fn application_level(name: &[u8], arguments: &[Tree]) -> u8
         },
         _ => ATOM_LEVEL,
     }
-}
-
-fn is_negation(name: &[u8]) -> bool
-    ensures { result ≡ negation_test name.now }
-{
-    constant(Mark::Not) == name
 }
 
 /// The bytes of a mark.
