@@ -65,25 +65,34 @@ mod tests {
         Ok(Tree::App(Name::read(alloc, name)?, Trees::new(alloc)))
     }
 
-    #[test]
-    fn prints_a_tree_a_claim_and_a_reason(rt: HostRuntime) -> Result<(), Fail> {
-        let alloc = rt.alloc();
+    // q |- p => q
+    fn example_claim(alloc: Global) -> Result<Claim, Fail> {
         let mut sides = Trees::new(alloc);
         sides.push(leaf(alloc, b"p")?)?;
         sides.push(leaf(alloc, b"q")?)?;
+        let conclusion = Tree::App(Name::read(alloc, b"imp")?, sides);
         let mut hyps = Hyps::new(alloc);
         hyps.push(Hyp::Plain(leaf(alloc, b"q")?))?;
-        let conclusion = Tree::App(Name::read(alloc, b"imp")?, sides);
-        assert!(rt; print_tree(alloc, &conclusion)?.items() == b"p => q".as_slice());
-        let text = print_claim(alloc, &Claim { hyps, conclusion })?;
-        assert!(rt; text.items() == b"q |- p => q".as_slice());
-        let mut terms = Trees::new(alloc);
-        terms.push(leaf(alloc, b"x")?)?;
+        Ok(Claim { hyps, conclusion })
+    }
+
+    // hyp #2 from l, b#12
+    fn example_why(alloc: Global) -> Result<Why, Fail> {
+        let terms = Trees::new(alloc);
         let mut refs = Refs::new(alloc);
         refs.push(Ref::Item(Name::read(alloc, b"l")?))?;
         refs.push(Ref::Assumption(Name::read(alloc, b"b")?, 12))?;
-        let text = print_why(alloc, &Why::Hypothesis { n: 2, terms, refs })?;
-        assert!(rt; text.items() == b"hyp #2 with x from l, b#12".as_slice());
+        Ok(Why::Hypothesis { n: 2, terms, refs })
+    }
+
+    #[test]
+    fn prints_a_tree_a_claim_and_a_reason(rt: HostRuntime) -> Result<(), Fail> {
+        let alloc = rt.alloc();
+        let claim = example_claim(alloc)?;
+        assert!(rt; print_tree(alloc, &claim.conclusion)?.items() == b"p => q".as_slice());
+        assert!(rt; print_claim(alloc, &claim)?.items() == b"q |- p => q".as_slice());
+        let why = example_why(alloc)?;
+        assert!(rt; print_why(alloc, &why)?.items() == b"hyp #2 from l, b#12".as_slice());
         Ok(())
     }
 }
