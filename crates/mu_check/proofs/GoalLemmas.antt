@@ -1,5 +1,5 @@
 -- A proof that is checked against a goal is checked against its rule.
-use Rattle.std.proofs.Common.{◌≡◌, ℕ, List, [], map, ap, refl, sym, ◌∙◌, subst}
+use Rattle.std.proofs.Common.{◌≡◌, ℕ, List, [], map, ap, refl, sym, ◌∙◌}
 use Rattle.std.specs.Prelude.{Option, Some, None}
 use Rattle.std.specs.FinMap as finite
 use Rattle.mu_tree.specs.declared.trees.Tree.{Tree}
@@ -15,7 +15,7 @@ use Rattle.mu_check.specs.declared.environments.Environment.{Environment}
 use Rattle.mu_check.specs.declared.verdicts.Goal.{Goal}
 use Rattle.mu_check.specs.Facts.{plain_fact, hypothesis_fact}
 use Rattle.mu_check.specs.Environments.{start, left}
-use Rattle.mu_check.specs.Verdicts.{checked, in_order, ends, labelled, root_cause, allowed_by, claim_fault, verdict, verdict_by}
+use Rattle.mu_check.specs.Verdicts.{checked, in_order, ends, labelled, root_cause, allowed_by, verdict, verdict_by}
 use Rattle.mu_check.specs.Goals.{conclusion_cause, goal_by, goal_fault, nothing, IsGoal, KeepsGoal}
 
 by_tree : (t : Tree) (o : Option Tree) → conclusion_cause (plain_fact [] t) o ≡ root_cause t o

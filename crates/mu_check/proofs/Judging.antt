@@ -4,7 +4,7 @@ use Rattle.std.specs.Prelude.{not, ◌||◌, Option, Some, None}
 use Rattle.std.specs.Bool.{nat_eq}
 use Rattle.std.specs.Option.{option_or, is_some}
 use Rattle.std.specs.List.{AllByRecursion, AllZip, Contains, IsDistinct, list_all, list_any, flat_map}
-use Rattle.std.specs.Cmp.Lexicographic.{pointwise, same_text, nat_list_eq_equiv}
+use Rattle.std.specs.Cmp.Lexicographic.{pointwise}
 use Rattle.std.specs.FinMap as finite
 use Rattle.std.proofs.lemmas.List.{length-append, length-map, map-append}
 use Rattle.std.proofs.lemmas.Map.Views.{Contains-from_any}
@@ -23,7 +23,7 @@ use Rattle.mu_tree.specs.declared.why.Why.{Why}
 use Rattle.mu_tree.specs.declared.why.Why.TheVariants as why
 use Rattle.mu_decl.specs.Contexts.{World}
 use Rattle.mu_decl.specs.Claims.{names_of, scope_of, types_formed, same_occurrence, claim_occurrences, all_occurrences, type_occurrences}
-use Rattle.mu_decl.specs.Formation.{is_formed, occurrences, expression, same_kind}
+use Rattle.mu_decl.specs.Formation.{is_formed, occurrences, expression}
 use Rattle.mu_decl.specs.Nameless.{nameless}
 use Rattle.mu_decl.specs.Unfolding.{unfolded, delta_of}
 use Rattle.mu_decl.specs.declared.bare.Bare.{Bare}

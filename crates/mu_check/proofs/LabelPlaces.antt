@@ -3,7 +3,7 @@ use Rattle.std.proofs.Common.{◌≡◌, ◌⊎◌, inl, inr, refl, sym, ap, sub
 use Rattle.std.specs.Prelude.{Option, not, slice_get}
 use Rattle.std.specs.Option.{is_some, option_map}
 use Rattle.std.specs.List.{position_or_len}
-use Rattle.std.specs.Cmp.Lexicographic.{pointwise, same_text}
+use Rattle.std.specs.Cmp.Lexicographic.{same_text}
 use Rattle.std.specs.FinMap as finite
 use Rattle.std.proofs.lemmas.Bool.{eq-eqb, cases_Bool, cases_lt, both_ways}
 use Rattle.std.proofs.lemmas.Grind.{common_steps}
@@ -13,7 +13,6 @@ use Rattle.std.proofs.lemmas.List.Sums.{prefix_len-le-length, position_or_len_is
 use Rattle.std.proofs.lemmas.Option.{slice_get_within, slice_get-get_or, slice_get_past, get_or_from_slice_get}
 use Rattle.mu_tree.specs.Maps.{MapOf}
 use Rattle.mu_tree.proofs.MapLemmas.{same_name, get-insert_here, get-insert_other}
-use Rattle.mu_check.specs.declared.fact.Fact.{Fact}
 use Rattle.mu_check.specs.declared.environments.KnownItem.{KnownItem}
 use Rattle.mu_check.specs.Labels.{item_of, is_labelled, first_place, given_if, placed, with_place, Finds}
 

@@ -1,12 +1,12 @@
 -- A table has what is asked of the occurrences that were put into it.
-use Rattle.std.proofs.Common.{◌≡◌, inl, inr, refl, sym, ap, subst, ◌∙◌, ℕ, zero, suc, Bool, true, false, nat_eq, cond, List, [], ◌∷◌, ◌++◌, Some, None}
-use Rattle.std.specs.Prelude.{Option, ◌&&◌, ◌||◌, find, slice_get}
+use Rattle.std.proofs.Common.{◌≡◌, inl, inr, refl, sym, ap, subst, ◌∙◌, ℕ, Bool, true, false, nat_eq, cond, List, [], ◌∷◌, ◌++◌, Some, None}
+use Rattle.std.specs.Prelude.{Option, ◌||◌, slice_get}
 use Rattle.std.specs.Option.{unwrap_or, option_or}
 use Rattle.std.specs.List.{list_any}
 use Rattle.std.specs.Ordering.{nat_cmp}
 use Rattle.std.specs.Cmp.Lexicographic.{pointwise, slice_cmp, same_text, nat_list_eq_equiv}
 use Rattle.std.specs.FinMap as finite
-use Rattle.std.proofs.lemmas.Bool.{and_parts, and_left, both_ways, cases_Bool, false_from_ne_true, eqb-true}
+use Rattle.std.proofs.lemmas.Bool.{and_left, cases_Bool, false_from_ne_true}
 use Rattle.std.proofs.lemmas.List.Folds.{list_any-append}
 use Rattle.mu_tree.specs.Maps.{MapOf}
 use Rattle.mu_tree.proofs.MapLemmas.{same_name, get-insert_here, get-insert_other, insert_twice}

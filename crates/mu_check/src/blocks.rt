@@ -1,5 +1,7 @@
-ghost use Rattle.std.specs.Prelude.{◌≡◌, IfOk};
-ghost use Rattle.std.specs.List.{list_any};
+ghost use Rattle.std.specs.Prelude.{◌≡◌, ◌++◌, IfOk};
+ghost use Rattle.std.specs.List.{list_any, flat_map};
+ghost use Rattle.mu_decl.specs.Claims.{type_occurrences, all_occurrences};
+ghost use Rattle.mu_check.specs.Metas.{are_known};
 ghost use Rattle.mu_check.specs.Blocks.{shadows, block_formed, block_cause};
 
 use crate::allowed::Allowed;
@@ -60,11 +62,23 @@ pub fn block_cause<C: Context>(
     if !block_formed(alloc, context, allowed, scope, head)? {
         return Ok(Some(Cause::IllFormedBox));
     }
-    let mut found = Sequence::new(alloc);
-    add_type_occurrences(alloc, context, head.vars, &mut found)?;
-    all_occurrences(alloc, context, head.assumptions, &mut found)?;
-    if !allowed.metas.have(&found) {
+    if !head_has_known_metas(alloc, context, allowed, head)? {
         return Ok(Some(Cause::ForeignMeta));
     }
     Ok(None)
+}
+
+/// Whether the metavariables of a block's head are those of the rule's claim.
+fn head_has_known_metas<C: Context>(
+    alloc: Global,
+    context: &C,
+    allowed: &Allowed,
+    head: BlockHead,
+) -> Result<bool, NoMemory>
+    ensures { IfOk result (λ yes. yes ≡ are_known allowed.now.metas (flat_map (type_occurrences (C.world context.now)) head.entry.vars.now ++ all_occurrences (C.world context.now) head.entry.assumptions.now)) }
+{
+    let mut found = Sequence::new(alloc);
+    add_type_occurrences(alloc, context, head.vars, &mut found)?;
+    all_occurrences(alloc, context, head.assumptions, &mut found)?;
+    Ok(allowed.metas.have(&found))
 }

@@ -3,6 +3,9 @@ ghost use Rattle.std.specs.Option.{option_copied};
 ghost use Rattle.mu_decl.specs.Formation.{occurrences};
 ghost use Rattle.mu_decl.specs.Nameless.{nameless};
 ghost use Rattle.mu_decl.specs.Unfolding.{delta_of};
+ghost use Rattle.mu_check.specs.Same.{equal_facts};
+ghost use Rattle.mu_check.specs.Causes.{test};
+ghost use Rattle.mu_check.specs.declared.cause.Cause.TheVariants.{ConclusionDiffers};
 ghost use Rattle.mu_check.specs.declared.fact.Fact.TheVariants as fact;
 ghost use Rattle.mu_check.specs.Definitions.{parameters, body_formed, definition_formed, unfolded_fact, unfolding_cause, defined_cause, definition_cause};
 
@@ -103,8 +106,20 @@ fn unfolded_cause(
     ensures { IfOk result (λ cause. cause ≡ unfolding_cause line.entry.environment.now line.entry.tree.now delta.now (Some (fact.Plain tree.now))) }
 {
     let said = unfolded_line(alloc, line, delta)?;
+    unfolding_difference(alloc, delta, &said, tree)
+}
+
+/// What a line gives, against a tree that is unfolded.
+fn unfolding_difference(
+    alloc: Global,
+    delta: &DeltaRule,
+    said: &Fact,
+    tree: &Bare,
+) -> Result<Option<Cause>, NoMemory>
+    ensures { IfOk result (λ cause. cause ≡ test (equal_facts said.now (unfolded_fact delta.now tree.now)) ConclusionDiffers None) }
+{
     let wanted = unfolded_fact(alloc, delta, tree)?;
-    Ok(difference(&said, &wanted))
+    Ok(difference(said, &wanted))
 }
 
 /// The tree of a line, unfolded.

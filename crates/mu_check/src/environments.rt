@@ -129,11 +129,7 @@ pub fn add_item(
 }
 
 /// Enters a block: its variables come into scope, and its assumptions may be cited.
-pub fn within(
-    alloc: Global,
-    environment: &mut Environment,
-    head: BlockHead,
-) -> Result<(), NoMemory>
+pub fn within(alloc: Global, environment: &mut Environment, head: BlockHead) -> Result<(), NoMemory>
     ensures { OnOk result (environment.new ≡ within head.entry.label.now head.entry.vars.now head.entry.assumptions.now environment.old) }
 {
     let assumptions = assumptions_of(alloc, &mut environment.scope, head.vars, head.assumptions)?;

@@ -145,11 +145,7 @@ fn terms_formed<C: Context>(
 }
 
 /// The cause where a line says something else than a fact.
-pub fn plain_cause(
-    alloc: Global,
-    line: PlacedLine,
-    given: &Fact,
-) -> Result<Option<Cause>, NoMemory>
+pub fn plain_cause(alloc: Global, line: PlacedLine, given: &Fact) -> Result<Option<Cause>, NoMemory>
     ensures { IfOk result (λ cause. cause ≡ plain_cause line.entry.environment.now line.entry.tree.now given.now) }
 {
     let said = plain_fact(alloc, &line.environment.scope, line.tree)?;
@@ -229,16 +225,7 @@ pub fn hypothesis_cause<C: Context>(
             premises,
             upshot,
         } => {
-            let cause = sequent_cause(
-                alloc,
-                context,
-                line,
-                terms,
-                refs,
-                types,
-                premises,
-                upshot,
-            )?;
+            let cause = sequent_cause(alloc, context, line, terms, refs, types, premises, upshot)?;
             Ok(cause)
         }
     }

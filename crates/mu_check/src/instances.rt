@@ -2,12 +2,13 @@ ghost use Rattle.std.specs.Prelude.{◌≡◌, false, nat_eq, IfOk, MatchOption}
 ghost use Rattle.std.specs.FinMap as finite;
 ghost use Rattle.std.specs.List.{list_all};
 ghost use Rattle.std.specs.Cmp.Lexicographic.{pointwise};
+ghost use Rattle.mu_decl.specs.Formation.{is_formed};
 ghost use Rattle.mu_check.specs.Instances.{are_distinct, AreSet, expressions, fits, has_meta, metas_of, is_instance};
 
-use crate::allowed::Allowed;
+use crate::allowed::{Allowed, has_known_metas};
 use crate::metas::Metas;
-use mu_decl::{Context, Occurrence, Scope, add_expressions, is_formed, occurrences};
-use mu_tree::{Given, Name, NameSet, Names, NoMemory, Sequence};
+use mu_decl::{Context, Occurrence, Scope, add_expressions, is_formed};
+use mu_tree::{Given, Kind, Name, NameSet, Names, NoMemory, Sequence};
 use std::alloc::Global;
 
 /// The names as a set, none where one stands twice.
@@ -69,20 +70,25 @@ fn fits<C: Context>(
     if !are_distinct(alloc, given.params.items())? {
         return Ok(false);
     }
-    let mut inner = expressions(alloc, scope, &given.params)?;
-    if !is_formed(
-        alloc,
-        context,
-        &allowed.seen,
-        &mut inner,
-        first.kind,
-        &given.body,
-    )? {
+    if !is_body(alloc, context, allowed, scope, first.kind, given)? {
         return Ok(false);
     }
-    let mut found = Sequence::new(alloc);
-    occurrences(alloc, context, first.kind, &given.body, &mut found)?;
-    Ok(allowed.metas.have(&found))
+    has_known_metas(alloc, context, allowed, first.kind, &given.body)
+}
+
+/// Whether the body of what is given is well formed and of this kind.
+fn is_body<C: Context>(
+    alloc: Global,
+    context: &C,
+    allowed: &Allowed,
+    scope: &Names,
+    kind: Kind,
+    given: &Given,
+) -> Result<bool, NoMemory>
+    ensures { IfOk result (λ yes. yes ≡ is_formed (C.world context.now) allowed.now.seen (expressions scope.now given.now.params) kind given.now.body) }
+{
+    let mut inner = expressions(alloc, scope, &given.params)?;
+    is_formed(alloc, context, &allowed.seen, &mut inner, kind, &given.body)
 }
 
 fn all_fit<C: Context>(

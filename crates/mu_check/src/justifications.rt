@@ -3,9 +3,8 @@ ghost use Rattle.std.specs.Option.{option_copied};
 ghost use Rattle.std.specs.List.{list_all};
 ghost use Rattle.std.specs.Cmp.Lexicographic.{pointwise};
 ghost use Rattle.mu_tree.specs.declared.claim.Kind.TheVariants.{E};
-ghost use Rattle.mu_decl.specs.Formation.{is_formed, occurrences, expression};
+ghost use Rattle.mu_decl.specs.Formation.{is_formed, expression};
 ghost use Rattle.mu_decl.specs.Claims.{claim_occurrences};
-ghost use Rattle.mu_check.specs.Metas.{are_known};
 ghost use Rattle.mu_check.specs.Same.{equal_facts};
 ghost use Rattle.mu_check.specs.Facts.{plain_fact, hypothesis_fact, instantiated_fact, entered};
 ghost use Rattle.mu_check.specs.Instances.{is_instance};
@@ -13,6 +12,7 @@ ghost use Rattle.mu_check.specs.Environments.{is_accessible};
 ghost use Rattle.mu_check.specs.Causes.{meets, concludes, instance_cause, claim_cause, rule_cause, same_cause};
 ghost use Rattle.mu_check.specs.Justifications.{refs_of, citing_cause, why_cause, justified_cause, line_cause};
 
+use crate::allowed::has_known_metas;
 use crate::cause::Cause;
 use crate::definitions::definition_cause;
 use crate::environments::{Environment, are_accessible, gives, is_accessible, nth};
@@ -22,9 +22,7 @@ use crate::hypotheses::{hypothesis_cause, plain_cause};
 use crate::instances::is_instance;
 use crate::lines::PlacedLine;
 use crate::metas::Metas;
-use mu_decl::{
-    Abstractions, Context, Statement, add_expressions, claim_occurrences, is_formed, occurrences,
-};
+use mu_decl::{Abstractions, Context, Statement, add_expressions, claim_occurrences, is_formed};
 use mu_tree::{Claim, Given, Hyp, Kind, Name, NoMemory, Ref, Sequence, Tree, Why};
 use std::alloc::Global;
 
@@ -307,20 +305,14 @@ fn is_element<C: Context>(alloc: Global, context: &C, line: PlacedLine) -> Resul
 {
     let mut scope = Sequence::new(alloc);
     add_expressions(alloc, line.environment.scope.items(), &mut scope)?;
-    is_formed(alloc, context, &line.allowed.seen, &mut scope, Kind::E, line.tree)
-}
-
-/// Whether the metavariables of a line are those of the rule's claim.
-fn has_known_metas<C: Context>(
-    alloc: Global,
-    context: &C,
-    line: PlacedLine,
-) -> Result<bool, NoMemory>
-    ensures { IfOk result (λ yes. yes ≡ are_known line.entry.allowed.now.metas (occurrences (C.world context.now) line.entry.tree.now E)) }
-{
-    let mut found = Sequence::new(alloc);
-    occurrences(alloc, context, Kind::E, line.tree, &mut found)?;
-    Ok(line.allowed.metas.have(&found))
+    is_formed(
+        alloc,
+        context,
+        &line.allowed.seen,
+        &mut scope,
+        Kind::E,
+        line.tree,
+    )
 }
 
 /// The first test that a line fails.
@@ -338,7 +330,7 @@ pub fn line_cause<C: Context>(
     if !is_element(alloc, context, line)? {
         return Ok(Some(Cause::IllFormedLine));
     }
-    if !has_known_metas(alloc, context, line)? {
+    if !has_known_metas(alloc, context, line.allowed, Kind::E, line.tree)? {
         return Ok(Some(Cause::ForeignMeta));
     }
     justified_cause(alloc, context, line, why)

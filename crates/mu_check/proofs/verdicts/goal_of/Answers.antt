@@ -1,4 +1,4 @@
-use Rattle.std.proofs.Common.{◌≡◌, subst, sym}
+use Rattle.std.proofs.Common.{subst, sym}
 use Rattle.mu_check.specs.Goals.{IsGoal}
 use Rattle.mu_check.proofs.GoalLemmas.{made_ready}
 use Rattle.mu_check.proofs.verdicts.goal_of.Goals as goal
