@@ -1,5 +1,5 @@
 -- What rules lead to after an edit of a proof.
-use Rattle.std.proofs.Common.{◌≡◌, inl, inr, refl, sym, ap, subst, ◌∙◌, cond, ℕ, Bool, true, false, List, [], ◌∷◌, ◌++◌, take, drop, length, Option, Some, None, arith}
+use Rattle.std.proofs.Common.{◌≡◌, inl, inr, refl, sym, ap, subst, ◌∙◌, cond, ℕ, Bool, true, false, List, [], ◌∷◌, ◌++◌, take, drop, Option, Some, None}
 use Rattle.std.specs.Prelude.{◌⊎◌, is_some}
 use Rattle.std.specs.List.{flat_map, insert}
 use Rattle.std.specs.Option.{option_map_or}
@@ -22,7 +22,7 @@ use Rattle.mu_graph.specs.Derivations.{Stands}
 use Rattle.mu_graph.specs.Circles.{DiffersAt, GainsAt}
 use Rattle.mu_graph.proofs.DerivationLemmas.{stands_front, stands_back, stands_either}
 use Rattle.mu_proof.specs.Items.{is_line, is_line_at, line_step, with_why, why_step, rejustified}
-use Rattle.mu_proof.specs.Proofs.{is_line_label, with_why_at}
+use Rattle.mu_proof.specs.Proofs.{is_line_label, place_of, with_why_at}
 use Rattle.mu_proof.specs.declared.items.Item.{Item}
 use Rattle.mu_proof.specs.declared.items.Item.TheOpen.{Item-F, Line, Block}
 use Rattle.mu_proof.specs.declared.items.Item.TheFolds.{fold_out-Item, map-Item}
@@ -33,7 +33,7 @@ use Rattle.mu_proof.specs.declared.citations.Cited.{Cited}
 use Rattle.mu_proof.specs.declared.citations.Cited.TheVariants.{Rule, Morphism}
 use Rattle.mu_proof.proofs.CitationEquations.{cites-line}
 use Rattle.mu_flat.specs.CiterTables.{CitersOf, citers_of, with_citer, HasAllCiters, AddsCiter}
-use Rattle.mu_flat.specs.ProofTables.{ProofsOf, proofs_of, proof_at, with_proof, has_line_at, with_reason_in, with_reason_at, cited_in, leads}
+use Rattle.mu_flat.specs.ProofTables.{ProofsOf, proofs_of, proof_at, with_proof, with_item_in, with_item_at, has_line_at, with_reason_in, with_reason_at, cited_in, leads}
 use Rattle.mu_flat.specs.Edits.{IsOpenLine}
 use Rattle.mu_flat.proofs.ProofTables.{proof_at-with_proof}
 
@@ -172,6 +172,15 @@ line_leads proofs rule proof items at line open_ is from to s =
       | inl u ↦ inl (subst (Stands other) (ap item_cites open_.2 ∙ cites-line open_.0 open_.1 None) u)
       | inr u ↦ inr (cited_leads proofs rule proof items is other u)
     ]) from to s) [ inl t ↦ absurd t | inr t ↦ t ]
+
+-- and where a line without a reason was put into one of them
+pub item_leads : (proofs : ProofsOf) (rule proof : List ℕ) (before : Option (List ℕ)) (line : Item) → IsOpenLine line → (from to : Cited) → Stands to (leads (with_item_at proofs rule proof before line) from)
+    → Stands to (leads proofs from)
+item_leads proofs rule proof before line open_ = go (proof_at proofs rule proof) refl
+  where
+    go : (found : Option (List Item)) → proof_at proofs rule proof ≡ found → (from to : Cited) → Stands to (leads (with_item_in proofs rule proof before line found) from) → Stands to (leads proofs from)
+    go None is from to s = s
+    go (Some items) is from to s = line_leads proofs rule proof items (place_of items before) line open_ is from to s
 
 -- ---- another reason of a line
 module _ (proofs : ProofsOf) (rule proof label : List ℕ) (why : Option Why) where

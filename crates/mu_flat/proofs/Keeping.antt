@@ -16,13 +16,14 @@ use Rattle.mu_proof.specs.declared.citations.Cited.TheVariants.{Rule}
 use Rattle.mu_flat.specs.Base.{is_base, base_table}
 use Rattle.mu_flat.specs.Circles.{first_circle}
 use Rattle.mu_flat.specs.CiterTables.{CitersOf, HasAllCiters, AddsCiter}
-use Rattle.mu_flat.specs.ProofTables.{ProofsOf, leads, has_line_at, proof_at, with_reason_at}
-use Rattle.mu_flat.specs.Edits.{cite_refusal}
+use Rattle.mu_flat.specs.ProofTables.{ProofsOf, leads, has_line_at, proof_at, with_item_at, with_reason_at}
+use Rattle.mu_proof.specs.declared.items.Item.{Item}
+use Rattle.mu_flat.specs.Edits.{IsOpenLine, cite_refusal}
 use Rattle.mu_flat.specs.Entries.{IsPlain, IsTheory}
 use Rattle.mu_flat.specs.Stores.{IsKept, entries_of}
 use Rattle.mu_flat.specs.declared.stores.Store.TheInside.{Inside}
 use Rattle.mu_flat.proofs.CircleLemmas.{told_acyclic}
-use Rattle.mu_flat.proofs.Citing.{reason_gains, all_citers_still}
+use Rattle.mu_flat.proofs.Citing.{item_leads, reason_gains, all_citers_still}
 use Rattle.mu_flat.proofs.Refusals.{circle_alone, unrefused}
 use Rattle.mu_flat.proofs.Validity.{valid_initial, none_cite, valid_theory, valid_constant, valid_rule, valid_proofs}
 
@@ -52,6 +53,10 @@ module _ (inside : Inside) (kept : IsKept inside) where
   pub kept_fewer : (proofs : ProofsOf) → ((from to : Cited) → Stands to (leads proofs from) → Stands to (leads inside.proofs from)) → IsKept (record inside { proofs = proofs })
   kept_fewer proofs fewer =
       kept_proofs proofs inside.citers (fewer_edges_acyclic (leads proofs) (leads inside.proofs) fewer kept.valid.acyclic) (λ rule from s. kept.citers rule from (fewer (Rule from) (Rule rule) s))
+
+  -- a line without a reason in one of the proofs
+  pub kept_line : (rule proof : List ℕ) (before : Option (List ℕ)) (line : Item) → IsOpenLine line → IsKept (record inside { proofs = with_item_at inside.proofs rule proof before line })
+  kept_line rule proof before line open_ = kept_fewer (with_item_at inside.proofs rule proof before line) (item_leads inside.proofs rule proof before line open_)
 
   -- what is told of circles after another reason of a line tells whether the edit is refused, as there is no circle before
   pub permitted : (rule proof label : List ℕ) (why : Why) (first : Option (List ℕ)) → has_line_at label (proof_at inside.proofs rule proof) ≡ true

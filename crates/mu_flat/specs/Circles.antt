@@ -1,5 +1,5 @@
 -- Circles of citations, and the first rule on one.
-use Rattle.std.specs.Prelude.{◌≡◌, ℕ, Bool, true, false, List, map, Option, Some, None, MatchOption}
+use Rattle.std.specs.Prelude.{◌≡◌, ℕ, Bool, false, List, map, Option, Some, None, MatchOption}
 use Rattle.std.specs.Bool.{nat_eq}
 use Rattle.std.specs.List.{find}
 use Rattle.std.specs.Ordering.{nat_cmp, is_gt}

@@ -1,5 +1,5 @@
 -- Sets of rules and morphisms.
-use Rattle.std.specs.Prelude.{ℕ, Bool}
+use Rattle.std.specs.Prelude.{Bool}
 use Rattle.std.specs.FinMap as finite
 use Rattle.mu_tree.specs.Maps.{NamesOf}
 use Rattle.mu_proof.specs.declared.citations.Cited.{Cited}

@@ -8,7 +8,7 @@ use Rattle.mu_tree.specs.declared.why.Why.{Why}
 use Rattle.mu_graph.specs.Derivations.{Stands}
 use Rattle.mu_graph.specs.Names.{led_by, linked, leads_linked}
 use Rattle.mu_proof.specs.declared.items.Item.{Item}
-use Rattle.mu_proof.specs.Proofs.{is_line_label, with_why_at}
+use Rattle.mu_proof.specs.Proofs.{is_line_label, inserted, with_why_at}
 use Rattle.mu_proof.specs.Citations.{cites}
 use Rattle.mu_proof.specs.declared.citations.Cited.{Cited}
 use Rattle.mu_proof.specs.declared.citations.Cited.TheVariants.{Rule, Morphism}
@@ -42,6 +42,15 @@ with_reason_in proofs rule proof label why (Some items) = with_proof proofs rule
 -- the proofs with another reason of a line
 abbrev pub with_reason_at : ProofsOf → List ℕ → List ℕ → List ℕ → Option Why → ProofsOf
 with_reason_at proofs rule proof label why = with_reason_in proofs rule proof label why (proof_at proofs rule proof)
+
+-- the proofs with an item put into the proof that was found, before an item of it or at its end, and as they were where none was
+abbrev pub with_item_in : ProofsOf → List ℕ → List ℕ → Option (List ℕ) → Item → Option (List Item) → ProofsOf
+with_item_in proofs rule proof before item None = proofs
+with_item_in proofs rule proof before item (Some items) = with_proof proofs rule proof (inserted items before item)
+
+-- the proofs with an item put into one of them
+abbrev pub with_item_at : ProofsOf → List ℕ → List ℕ → Option (List ℕ) → Item → ProofsOf
+with_item_at proofs rule proof before item = with_item_in proofs rule proof before item (proof_at proofs rule proof)
 
 -- what some proofs cite
 abbrev pub cited_in : MapOf (List Item) → List Cited

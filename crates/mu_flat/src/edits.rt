@@ -1,5 +1,8 @@
+ghost use Rattle.std.specs.Prelude.{◌≡◌, IfOk};
+
 use mu_proof::ProofFault;
-use mu_tree::{CountWord, NoMemory, Refusal};
+use mu_tree::{CountWord, Name, NoMemory, Refusal};
+use std::alloc::Global;
 
 /// Why an edit was not carried out.
 #[derive(Drop)]
@@ -36,4 +39,11 @@ impl From<ProofFault> for EditFault {
             ProofFault::NoMemory => EditFault::NoMemory,
         }
     }
+}
+
+/// The fault that there is nothing of this name.
+pub(crate) fn unknown(alloc: Global, name: &Name) -> Result<EditFault, NoMemory>
+    ensures { IfOk result (λ fault. fault ≡ EditFault.Refused (Refusal.Unknown name.now)) }
+{
+    Ok(EditFault::Refused(Refusal::Unknown(name.copy(alloc)?)))
 }

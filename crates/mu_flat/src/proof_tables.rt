@@ -1,12 +1,16 @@
-ghost use Rattle.std.specs.Prelude.{◌≡◌, ◌++◌, true, false, Some, [], is_some, IfOk, OnOk, OnErr};
+ghost use Rattle.std.specs.Prelude.{◌≡◌, ◌++◌, true, false, None, Some, [], is_some, IfOk, OnOk, OnErr, IfErr};
 ghost use Rattle.std.specs.Option.{option_copied, unwrap_or};
 ghost use Rattle.std.specs.FinMap as finite;
+ghost use Rattle.mu_proof.specs.Items.{IsLine, label_of};
 ghost use Rattle.mu_proof.specs.Proofs.{is_line_label};
-ghost use Rattle.mu_flat.specs.ProofTables.{proofs_of, proof_at, with_proof, leads, led_to, leads_within, cited_in, has_line_at, with_reason_at};
+ghost use Rattle.mu_tree.specs.declared.refusal.Refusal.{Refusal as RefusalOf};
+ghost use Rattle.mu_flat.specs.Edits.{edit_fault, insert_refusal};
+ghost use Rattle.mu_flat.specs.ProofTables.{proofs_of, proof_at, with_proof, with_item_at, leads, led_to, leads_within, cited_in, has_line_at, with_reason_at};
 
 use crate::cited_sets::CitedSet;
+use crate::edits::{EditFault, unknown};
 use mu_graph::Edges;
-use mu_proof::{Cited, Item, Proof, cites};
+use mu_proof::{Cited, Item, Proof, ProofFault, cites};
 use mu_tree::{Name, Names, NoMemory, Table, Why};
 use std::alloc::Global;
 use std::marker::Model;
@@ -102,6 +106,58 @@ impl ProofTable {
         let found = proofs.swap(proof, other);
         self.by_rule.swap(rule, &mut proofs);
         found
+    }
+
+    /// Puts a line into a block of a proof, right before an item of it or at its end.
+    ///
+    /// # Errors
+    ///
+    /// `Refused` where there is no such proof, block or item, where an item of the proof has the label of the line, or
+    /// where the proof has as many items as it may have: the first of them that fits. `NoMemory` may come at any call.
+    /// Each leaves the proofs as they were.
+    pub(crate) fn insert_line(
+        &mut self,
+        alloc: Global,
+        rule: &Name,
+        proof: &Name,
+        block: &Name,
+        before: Option<&Name>,
+        line: Item,
+    ) -> Result<(), EditFault>
+        requires { IsLine line }
+        ensures ok { OnOk result (insert_refusal proof.now block.now (option_copied before.entry) (label_of line) (proof_at self.old rule.now proof.now) ≡ None) }
+        ensures new { OnOk result (self.new ≡ with_item_at self.old rule.now proof.now (option_copied before.entry) line) }
+        ensures fault { IfErr result (λ fault. (refusal : RefusalOf) → fault ≡ EditFault.Refused refusal → insert_refusal proof.now block.now (option_copied before.entry) (label_of line) (proof_at self.old rule.now proof.now) ≡ Some refusal) }
+        ensures err { OnErr result (self.new ≡ self.old) }
+    {
+        if self.find(rule, proof).is_none() {
+            return Err(unknown(alloc, proof)?);
+        }
+        Ok(self.put_line(alloc, rule, proof, block, before, line)?)
+    }
+
+    /// Puts a line into a block of a proof that is there.
+    fn put_line(
+        &mut self,
+        alloc: Global,
+        rule: &Name,
+        proof: &Name,
+        block: &Name,
+        before: Option<&Name>,
+        line: Item,
+    ) -> Result<(), ProofFault>
+        requires line { IsLine line }
+        requires there { is_some (proof_at self.old rule.now proof.now) ≡ true }
+        ensures ok { OnOk result (insert_refusal proof.now block.now (option_copied before.entry) (label_of line) (proof_at self.old rule.now proof.now) ≡ None) }
+        ensures new { OnOk result (self.new ≡ with_item_at self.old rule.now proof.now (option_copied before.entry) line) }
+        ensures fault { IfErr result (λ fault. (refusal : RefusalOf) → edit_fault fault ≡ EditFault.Refused refusal → insert_refusal proof.now block.now (option_copied before.entry) (label_of line) (proof_at self.old rule.now proof.now) ≡ Some refusal) }
+        ensures err { OnErr result (self.new ≡ self.old) }
+    {
+        let mut edited = Proof::new(alloc);
+        self.swap(alloc, rule, proof, &mut edited);
+        let result = edited.insert(alloc, block, before, line);
+        self.swap(alloc, rule, proof, &mut edited);
+        result
     }
 
     /// Whether there is a proof of a rule and a name that has a line of a label.

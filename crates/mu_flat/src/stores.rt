@@ -16,10 +16,10 @@ ghost use Rattle.mu_flat.specs.Contexts.{names_in};
 use crate::base::{base_name, base_table};
 use crate::circles::first_circle;
 use crate::citer_tables::CiterTable;
-use crate::edits::EditFault;
+use crate::edits::{EditFault, unknown};
 use crate::proof_tables::ProofTable;
 use mu_decl::{ConstDecl, Context, MorphMap, Own, Statement};
-use mu_proof::{Item, Proof};
+use mu_proof::Item;
 use mu_tree::{Definition, Name, NameSet, Names, NoMemory, Refusal, Table, Why};
 use std::alloc::Global;
 use std::cmp::Ordering;
@@ -175,13 +175,8 @@ impl Store {
         ensures fault { IfErr result (λ fault. (refusal : RefusalOf) → fault ≡ EditFault.Refused refusal → line_refusal self.old rule.now proof.now block.now (option_copied before.entry) (label_of line) ≡ Some refusal) }
         ensures err { OnErr result (self.new ≡ self.old) }
     {
-        let mut edited = Proof::new(alloc);
-        if !self.proofs.swap(alloc, rule, proof, &mut edited) {
-            return Err(unknown(alloc, proof)?);
-        }
-        let result = edited.insert(alloc, block, before, line);
-        self.proofs.swap(alloc, rule, proof, &mut edited);
-        Ok(result?)
+        self.proofs
+            .insert_line(alloc, rule, proof, block, before, line)
     }
 
     /// Cites a line of a proof to a reason, in place of the one that it had.
@@ -233,13 +228,6 @@ impl Store {
             None => Ok(()),
         }
     }
-}
-
-/// The fault that there is no proof of this name.
-fn unknown(alloc: Global, name: &Name) -> Result<EditFault, NoMemory>
-    ensures { IfOk result (λ fault. fault ≡ EditFault.Refused (Refusal.Unknown name.now)) }
-{
-    Ok(EditFault::Refused(Refusal::Unknown(name.copy(alloc)?)))
 }
 
 /// The fault that a proof has no line of this label, or isn't there.

@@ -1,12 +1,6 @@
-use Rattle.std.proofs.Common.{◌≡◌, ◌↔◌, ◌∙◌, sym, ap, subst, List, Some, None, true, false}
-use Rattle.std.proofs.lemmas.Bool.{false≢true}
+use Rattle.std.proofs.Common.{◌∙◌, ap, subst, Some, None}
 use Rattle.std.specs.Option.{option_copied}
 use Rattle.mu_proof.specs.Citations.{cited_by}
-use Rattle.mu_proof.specs.declared.citations.Cited.{Cited}
-use Rattle.mu_proof.specs.declared.citations.Cited.TheVariants.{Rule}
-use Rattle.mu_graph.specs.Circles.{IsBetween}
-use Rattle.mu_graph.specs.Derivations.{Stands}
-use Rattle.mu_flat.specs.ProofTables.{leads}
 use Rattle.mu_flat.specs.Circles.{IsLeastRule}
 use Rattle.mu_flat.proofs.CircleLemmas.{least_so, apart_so, citing_turned}
 use Rattle.mu_flat.proofs.circles.first_circle.Goals as goal

@@ -1,6 +1,5 @@
-use Rattle.std.proofs.Common.{◌≡◌, Some, sym, ap, ◌∙◌, true, List}
+use Rattle.std.proofs.Common.{◌≡◌, Some, sym, ap, ◌∙◌, true}
 use Rattle.std.specs.Prelude.{is_some}
-use Rattle.mu_proof.specs.declared.items.Item.{Item}
 use Rattle.mu_flat.specs.ProofTables.{ProofsOf, proof_at, with_proof, has_line_at}
 use Rattle.mu_flat.proofs.ProofTables.{found_there, line_found, proof_back, with_reason_there}
 use Rattle.mu_flat.proofs.proof_tables.ProofTable.set_reason.Goals as goal
