@@ -283,7 +283,7 @@ line goal m one in root before end : p
 line goal m two in root before end : q
 cite goal m one : rule p_holds
 cite goal m two : rule step from one
-status goal
+show rule goal
 cite goal m two : rule if_p_then_q from one
 status goal
 rule prop later : q
@@ -317,7 +317,9 @@ ok
 ok
 ok
 ok
-goal rule incomplete
+rule prop goal incomplete : conj(p, q)
+proof m fault two absent
+end
 ok
 goal rule established
 ok
