@@ -9,6 +9,7 @@ use Rattle.mu_grammar.specs.Spacing.{spaced}
 use Rattle.mu_command.specs.declared.command.Command.{Command}
 use Rattle.mu_command.specs.declared.readings.Reading.TheVariants as line_reading
 use Rattle.mu_command.specs.Readings.{IsRead, reading_of}
+use Rattle.mu_print.specs.Laws.{ClaimsReadBack}
 use Rattle.mural.specs.Replies.{entries_after}
 
 -- the laws of the commands, of the status words and of the store
@@ -17,6 +18,8 @@ pub record Laws : Type 0 where
   pub reading : (line : List ℕ) → IsRead line
   -- the tokens of a command, with one blank between each two, are the same command
   pub canonical : (line : List ℕ) (command : Command) → reading_of line ≡ line_reading.Command command → reading_of (spaced line) ≡ line_reading.Command command
+  -- each claim that some text reads as is what its canonical text, which pages tell, reads as
+  pub claims : ClaimsReadBack
   -- the status that is told of a rule is the one that fits, and what is established rests on axioms alone
   pub statuses : AreStatuses
   -- the name that a refusal for a circle tells is the first in byte order that leads back to itself
