@@ -3,6 +3,8 @@ mod Commands
 mod Ends
 mod Known
 mod Lawful
+mod PageLemmas
 mod Pieces
+mod Queries
 mod Serving
 mod Storable

@@ -53,10 +53,13 @@ proof_line e rule entry = codes "proof " ++ (entry.0 ++ verdict_words (verdict (
 abbrev pub proof_lines : Entries → List ℕ → List ℕ
 proof_lines e rule = flat_map (proof_line e rule) (finite.entries (proofs_of e.proofs rule))
 
+-- the word for a rule, its unit and its name
+unfoldable pub rule_names : List ℕ → Statement → List ℕ
+rule_names rule s = rule_word s ++ (codes " " ++ (s.theory ++ (codes " " ++ (rule ++ codes " "))))
+
 -- the first line of the page of a rule: the word for it, its unit, its name, its status and its claim
 abbrev pub rule_line : List ℕ → Statement → RuleStatus → List ℕ
-rule_line rule s status =
-    rule_word s ++ (codes " " ++ (s.theory ++ (codes " " ++ (rule ++ (codes " " ++ (word_of status ++ (codes " : " ++ (claim_text s.claim ++ codes "\n"))))))))
+rule_line rule s status = rule_names rule s ++ (word_of status ++ (codes " : " ++ (claim_text s.claim ++ codes "\n")))
 
 -- the page of a rule with this statement and status
 abbrev pub rule_page : Entries → List ℕ → Statement → RuleStatus → List ℕ

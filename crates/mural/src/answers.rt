@@ -14,8 +14,8 @@ use mu_command::{Command, Reading, read};
 use mu_decl::{Context, Statement};
 use mu_edit::apply;
 use mu_flat::{EditFault, Store, is_base, is_base_constant};
-use mu_status::{RuleStatus, status};
 use mu_grammar::Token;
+use mu_status::{RuleStatus, status};
 use mu_tables::Work;
 use mu_text::parts::{name_bytes, sees_word};
 use mu_text::{Reader, Tokens, is_blank};
@@ -148,7 +148,8 @@ fn queried(command: &Command) -> Option<&Name>
     ensures { option_copied result ≡ asked_for command.now }
 {
     match command {
-        Command::Status { rule } | Command::ShowRule { rule } => Some(rule),
+        Command::Status { rule } => Some(rule),
+        Command::ShowRule { rule } => Some(rule),
         _ => None,
     }
 }

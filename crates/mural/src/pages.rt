@@ -3,7 +3,7 @@ ghost use Rattle.std.specs.FinMap as finite;
 ghost use Rattle.std.specs.List.{flat_map};
 ghost use Rattle.mu_check.specs.Goals.{IsChecker};
 ghost use Rattle.mu_flat.specs.Entries.{world_of};
-ghost use Rattle.mural.specs.Pages.{cause_word, proof_line, proof_lines, rule_line, rule_page, rule_word, status_page, verdict_words};
+ghost use Rattle.mural.specs.Pages.{cause_word, proof_line, proof_lines, rule_line, rule_names, rule_page, rule_word, status_page, verdict_words};
 
 use mu_check::{Cause, Checker, Fault};
 use mu_decl::Statement;
@@ -69,6 +69,7 @@ fn rule_word(statement: &Statement) -> &'static [u8]
 }
 
 /// Adds the line that says what a rule claims.
+#[tactic(auto, using(std::proofs::Common::append_assoc))]
 fn add_rule(
     page: &mut Vec<u8>,
     rule: &Name,
@@ -77,25 +78,28 @@ fn add_rule(
 ) -> Result<(), AllocError>
     ensures { OnOk result (page.new.items ≡ page.old.items ++ rule_line rule.now statement.now status) }
 {
-    page.extend_from_slice(rule_word(statement))?;
-    page.push(b' ')?;
-    page.extend_from_slice(statement.theory.bytes())?;
-    page.push(b' ')?;
-    page.extend_from_slice(rule.bytes())?;
-    page.push(b' ')?;
+    add_names(page, rule, statement)?;
     page.extend_from_slice(status.word().as_bytes())?;
     page.extend_from_slice(b" : ")?;
     mu_print::claim(page, &statement.claim)?;
     page.extend_from_slice(b"\n")
 }
 
+/// Adds the word for a rule, its unit and its name.
+#[tactic(auto, using(std::proofs::Common::append_assoc), unfolding(crate::specs::Pages::rule_names))]
+fn add_names(page: &mut Vec<u8>, rule: &Name, statement: &Statement) -> Result<(), AllocError>
+    ensures { OnOk result (page.new.items ≡ page.old.items ++ rule_names rule.now statement.now) }
+{
+    page.extend_from_slice(rule_word(statement))?;
+    page.extend_from_slice(b" ")?;
+    page.extend_from_slice(statement.theory.bytes())?;
+    page.extend_from_slice(b" ")?;
+    page.extend_from_slice(rule.bytes())?;
+    page.extend_from_slice(b" ")
+}
+
 /// Adds a line for each proof of a rule.
-fn add_proofs(
-    alloc: Global,
-    page: &mut Vec<u8>,
-    store: &Store,
-    rule: &Name,
-) -> Result<(), NoMemory>
+fn add_proofs(alloc: Global, page: &mut Vec<u8>, store: &Store, rule: &Name) -> Result<(), NoMemory>
     ensures { OnOk result (page.new.items ≡ page.old.items ++ proof_lines store.now rule.now) }
 {
     match store.proofs().of_rule(rule) {
@@ -117,7 +121,15 @@ fn add_each(
     let mut work = Work::new();
     let mut checker = Checker::new(alloc, store, rule)?;
     for entry in proofs.entries(alloc)? {
-        add_proof(alloc, page, store, entry.0, entry.1, &mut checker, &mut work)?;
+        add_proof(
+            alloc,
+            page,
+            store,
+            entry.0,
+            entry.1,
+            &mut checker,
+            &mut work,
+        )?;
     }
     Ok(())
 }
