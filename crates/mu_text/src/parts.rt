@@ -378,34 +378,3 @@ pub fn argument_kinds(alloc: Global, reader: &mut Reader) -> Result<Kinds, PartF
     mark(reader, Mark::Close)?;
     Ok(read)
 }
-
-#[cfg(test)]
-mod tests {
-    use super::*;
-    use crate::tokens::Tokens;
-    use mu_tree::Shape;
-    use std::test::Fail;
-
-    #[test]
-    fn reads_parts(rt: HostRuntime) -> Result<(), Fail> {
-        let alloc = rt.alloc();
-        let line = b"and a.b.c ?x1 #120 x l (e, t) forall{e} -> e";
-        let tokens = Tokens::read(alloc, line)?;
-        let mut reader = Reader::new(line, tokens.items());
-        assert!(rt; plain_name(alloc, &mut reader)?.bytes() == b"and".as_slice());
-        assert!(rt; name(alloc, &mut reader)?.bytes() == b"a.b.c".as_slice());
-        assert!(rt; meta(alloc, &mut reader)?.bytes() == b"x1".as_slice());
-        assert!(rt; place(&mut reader) == Ok(120));
-        assert!(rt; var(alloc, &mut reader)?.bytes() == b"x".as_slice());
-        assert_eq!(rt; references(alloc, &mut reader)?.len(), 1);
-        assert_eq!(rt; argument_kinds(alloc, &mut reader)?.len(), 2);
-        let declared = declaration(alloc, &mut reader)?;
-        assert!(rt; declared.name.bytes() == b"forall".as_slice());
-        match declared.shape {
-            Shape::Binder(body) => assert!(rt; body == Kind::E),
-            Shape::Plain(_) => assert!(rt; false),
-        }
-        assert!(rt; end(&mut reader).is_ok());
-        Ok(())
-    }
-}

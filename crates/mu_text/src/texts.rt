@@ -155,33 +155,3 @@ pub fn read_why(alloc: Global, text: &[u8]) -> Result<Why, TextFault>
     let read = parts::reason(alloc, &mut reader, &mut excess);
     answer(text, tokens.items(), read, reader.len(), excess)
 }
-
-#[cfg(test)]
-mod tests {
-    use super::*;
-    use std::test::Fail;
-
-    #[test]
-    fn reads_texts(rt: HostRuntime) -> Result<(), Fail> {
-        let alloc = rt.alloc();
-        let tree = read_tree(alloc, b"forall{x:T. not p(x) => (?m[x] = y)}")?;
-        assert_eq!(rt; tree.size(), 10);
-        assert_eq!(rt; tree.depth(), 5);
-        assert_eq!(rt;
-            read_tree(alloc, b"p and").err(),
-            Some(TextFault::Syntax(6))
-        );
-        let claim = read_claim(alloc, b"p; q |- p and q")?;
-        assert_eq!(rt; claim.hyps.len(), 2);
-        assert_eq!(rt; claim.conclusion.size(), 3);
-        let why = read_why(alloc, b"rule r from l, #2 with ?m[x, y] := x or y; ?n := p")?;
-        match &why {
-            Why::Rule { refs, inst, .. } => {
-                assert_eq!(rt; (refs.len(), inst.len()), (2, 2));
-                assert_eq!(rt; inst.items()[0].params.len(), 2);
-            }
-            _ => assert!(rt; false),
-        }
-        Ok(())
-    }
-}

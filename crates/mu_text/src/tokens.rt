@@ -72,20 +72,3 @@ fn read_items(alloc: Global, line: &[u8]) -> Result<Vec<Token>, AllocError>
     }
     Ok(found)
 }
-
-#[cfg(test)]
-mod tests {
-    use super::*;
-    use std::test::Fail;
-
-    #[test]
-    fn reads_a_line(rt: HostRuntime) -> Result<(), Fail> {
-        let tokens = Tokens::read(rt.alloc(), b"?a.b <=>:= a.b.c #12")?;
-        let ends = [(0, 2), (2, 3), (3, 4), (5, 8), (8, 10), (11, 16), (17, 20)];
-        assert_eq!(rt; tokens.items().len(), ends.len());
-        for (token, (from, to)) in tokens.items().iter().zip(ends.iter()) {
-            assert_eq!(rt; (token.from, token.to), (*from, *to));
-        }
-        Ok(())
-    }
-}

@@ -1,3 +1,4 @@
+mod calls;
 mod examples;
 mod pages;
 mod transcripts;
