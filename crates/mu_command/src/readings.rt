@@ -5,9 +5,9 @@ ghost use Rattle.mu_command.specs.Forms.{FormsHaveWords};
 ghost use Rattle.mu_command.specs.Readings.{ReadingIsExact, first_limit, or_text, reading_of, within_limits};
 ghost use Rattle.mu_command.specs.Canonical.{is_long};
 
+use crate::canonical::print;
 use crate::command::Command;
 use crate::grammar::read_command;
-use crate::prints::print;
 use mu_grammar::{Excess, PartFault, Token};
 use mu_text::{Reader, Tokens, are_short, column};
 use mu_tree::{LimitWord, NoMemory};

@@ -2,8 +2,8 @@ ghost use Rattle.std.specs.Prelude.{◌≡◌, ◌++◌, OnOk};
 ghost use Rattle.mu_print.specs.Canonical.{tree_text};
 ghost use Rattle.mu_print.specs.Texts.{block_text, claim_text, hypothesis_text, variable_text};
 
+use crate::canonical::tree;
 use crate::pieces::{Printed, add, surround};
-use crate::trees::tree;
 use mu_tree::{Claim, Hyp, Tree, TypedVar};
 use std::alloc::AllocError;
 

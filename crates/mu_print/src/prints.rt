@@ -3,9 +3,9 @@ ghost use Rattle.mu_print.specs.Canonical.{tree_text};
 ghost use Rattle.mu_print.specs.Laws.{ClaimsReadBack, ParenthesesAreNeeded, ReasonsReadBack, TreesReadBack};
 ghost use Rattle.mu_print.specs.Texts.{claim_text, reason_text};
 
+use crate::canonical::tree;
 use crate::claims::claim;
 use crate::reasons::reason;
-use crate::trees::tree;
 use mu_tree::{Bytes, Claim, NoMemory, Tree, Why};
 use std::alloc::Global;
 

@@ -2,8 +2,8 @@ ghost use Rattle.std.specs.Prelude.{◌≡◌, ◌++◌, OnOk, codes};
 ghost use Rattle.std.specs.Fmt.{decimal};
 ghost use Rattle.mu_print.specs.Texts.{abstraction_text, reason_text, reference_text, via_text};
 
+use crate::canonical::tree;
 use crate::pieces::{Printed, add, surround};
-use crate::trees::tree;
 use mu_tree::{Given, Name, Ref, Why};
 use std::alloc::AllocError;
 
@@ -85,13 +85,9 @@ fn morphism(out: &mut Vec<u8>, via: &Option<Name>) -> Result<(), AllocError>
     }
 }
 
-/// Adds the canonical text of a reference at the end.
-///
-/// # Errors
-///
-/// `AllocError`, with some of the text added.
+/// Adds a reference.
 #[tactic(auto, using(std::proofs::Common::append_assoc), unfolding(crate::specs::Texts::reference_text))]
-pub fn reference(out: &mut Vec<u8>, reference: &Ref) -> Result<(), AllocError>
+fn reference(out: &mut Vec<u8>, reference: &Ref) -> Result<(), AllocError>
     ensures { OnOk result (out.new.items ≡ out.old.items ++ reference_text reference.now) }
 {
     match reference {

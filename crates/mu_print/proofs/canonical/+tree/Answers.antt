@@ -3,8 +3,8 @@ use Rattle.mu_tree.specs.declared.trees.Tree.TheVariants as tree
 use Rattle.mu_print.specs.Canonical.{tree_text}
 use Rattle.mu_print.specs.Texts.{surrounded}
 use Rattle.mu_print.proofs.PrintingTrees.{text-call}
-use Rattle.mu_print.proofs.trees.+tree.Goals as goal
-use Rattle.mu_print.proofs.trees.+tree.Goals.{application-in_default-via-then-arguments-lt1, application-in_default-via-else-arguments-lt1+else-arguments-lt2+else-arguments-lt3}
+use Rattle.mu_print.proofs.canonical.+tree.Goals as goal
+use Rattle.mu_print.proofs.canonical.+tree.Goals.{application-in_default-via-then-arguments-lt1, application-in_default-via-else-arguments-lt1+else-arguments-lt2+else-arguments-lt3}
 
 pub application-returns-in_default : goal.application-returns-in_default
 application-returns-in_default t c =

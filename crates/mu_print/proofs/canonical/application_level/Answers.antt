@@ -1,7 +1,7 @@
 use Rattle.std.proofs.Common.{◌≡◌, sym, Some}
 use Rattle.mu_grammar.specs.Ops.{operator_named}
 use Rattle.mu_print.proofs.PrintingTrees.{level-operation}
-use Rattle.mu_print.proofs.trees.application_level.Goals as goal
+use Rattle.mu_print.proofs.canonical.application_level.Goals as goal
 
 pub returns-in-Some : goal.returns-in-Some
 returns-in-Some c =
