@@ -274,7 +274,3 @@ free_word other name Dotted = refl
 free_word other name True = refl
 free_word other name Meta = refl
 free_word other name Place = refl
-
--- a word may follow a tree
-pub word_follows : (l : ℕ) (other : Word) (name : List ℕ) → MayFollow l (word other name)
-word_follows l other name = record { free = free_word other name; operator = λ p e. cc }

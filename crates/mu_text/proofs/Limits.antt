@@ -96,9 +96,6 @@ var_within (mark m) text e h = cc
 pub var-keeps : KeepsNames VarName IsName
 var-keeps ts text h g = var_within g.0 text g.2 (at g.1 h).0
 
-pub meta-keeps : KeepsNames MetaName IsName
-meta-keeps ts text h g = meta_within g.0 text g.2 (at g.1 h).0
-
 head_within : (head : Word) (name : List ℕ) → is_head head ≡ true → WithinToken (word head name) → IsName name
 head_within Place name e h = cc
 head_within _ name e h = h

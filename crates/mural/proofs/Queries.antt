@@ -1,12 +1,12 @@
 -- The outcome of a query.
-use Rattle.std.proofs.Common.{◌≡◌, ℕ, ◌∙◌, Bool, false, List, Some, refl, ap}
+use Rattle.std.proofs.Common.{◌≡◌, ℕ, ◌∙◌, false, List, Some, refl, ap}
 use Rattle.std.specs.Prelude.{Result, Ok, Err, IfOk, OnErr, if◌then◌else◌}
 use Rattle.std.specs.FinMap as finite
 use Rattle.mu_tree.specs.declared.memory.NoMemory.{NoMemory}
 use Rattle.mu_flat.specs.Entries.{Entries}
 use Rattle.mu_command.specs.declared.command.Command.{Command}
 use Rattle.mural.specs.declared.reply.Reply.{Reply}
-use Rattle.mural.specs.Answers.{Outcome, answered, carry_out, no_command, queried, query, shows, step, step_by, touches_base}
+use Rattle.mural.specs.Answers.{answered, carry_out, no_command, queried, query, shows, step, step_by, touches_base}
 
 -- a command that asks for a rule, and does not touch the base theory, leads to the outcome of its query
 pub asked : (e : Entries) (c : Command) (rule : List ℕ) (result : Result Reply NoMemory) → touches_base c ≡ false → queried c ≡ Some rule

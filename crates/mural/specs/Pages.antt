@@ -1,5 +1,5 @@
 -- The pages of queries.
-use Rattle.std.specs.Prelude.{ℕ, ◌++◌, List, [], ◌∷◌, Option, Some, None, codes, if◌then◌else◌}
+use Rattle.std.specs.Prelude.{ℕ, ◌++◌, List, Option, Some, None, codes, if◌then◌else◌}
 use Rattle.std.specs.List.{flat_map}
 use Rattle.std.specs.FinMap as finite
 use Rattle.mu_decl.specs.declared.declaration.Statement.{Statement}
@@ -10,7 +10,7 @@ use Rattle.mu_check.specs.declared.cause.Fault.{Fault}
 use Rattle.mu_check.specs.Verdicts.{verdict}
 use Rattle.mu_flat.specs.ProofTables.{proofs_of}
 use Rattle.mu_flat.specs.Entries.{Entries, world_of}
-use Rattle.mu_status.specs.Statuses.{status_of, word_of}
+use Rattle.mu_status.specs.Statuses.{word_of}
 use Rattle.mu_status.specs.declared.statuses.RuleStatus.{RuleStatus}
 use Rattle.mu_print.specs.Texts.{claim_text}
 

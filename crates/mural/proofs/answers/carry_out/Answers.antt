@@ -1,6 +1,6 @@
 use Rattle.std.proofs.Common.{◌≡◌, ◌∙◌, Some, false, sym, ap}
 use Rattle.std.specs.Option.{option_copied}
-use Rattle.mural.specs.Answers.{queried, shows, touches_base}
+use Rattle.mural.specs.Answers.{queried, touches_base}
 use Rattle.mural.proofs.Queries.{asked, unchanged}
 use Rattle.mural.proofs.answers.carry_out.Goals as goal
 
