@@ -9,7 +9,7 @@ use Rattle.mu_proof.specs.declared.items.Item.TheVariants as item
 use Rattle.mu_check.specs.Verdicts.{line_tree, last_line}
 use Rattle.mu_check.specs.Places.{EndsWith}
 use Rattle.mu_check.proofs.CheckedEquations.{tree-line, tree-block}
-use Rattle.mu_check.proofs.ItemInduction.{item_cases}
+use Rattle.mu_proof.proofs.ItemInduction.{item_cases}
 
 last_split : {A : Type 0} (x : A) (xs : List A) → (front : List A) × (last : A) × (x ∷ xs ≡ front ++ last ∷ [])
 last_split x [] = ([], x, refl)

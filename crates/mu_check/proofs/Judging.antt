@@ -1,9 +1,9 @@
 -- The verdict decides the judgement: a line has no cause exactly where it is right, and so a block and a proof.
 use Rattle.std.proofs.Common.{arith, ◌≡◌, ◌+◌, refl, sym, ap, subst, ◌∙◌, ℕ, suc, Bool, true, false, ◌&&◌, List, [], ◌∷◌, ◌++◌, map, length}
-use Rattle.std.specs.Prelude.{not, ◌||◌, Option, Some, None}
+use Rattle.std.specs.Prelude.{not, ◌||◌, ◌↔◌, Option, Some, None, Result, Ok, Err, IfOk}
 use Rattle.std.specs.Bool.{nat_eq}
 use Rattle.std.specs.Option.{option_or, is_some}
-use Rattle.std.specs.List.{AllByRecursion, AllZip, Contains, IsDistinct, list_all, list_any, flat_map}
+use Rattle.std.specs.List.{AllByRecursion, AllZip, Contains, list_all, list_any, flat_map}
 use Rattle.std.specs.Cmp.Lexicographic.{pointwise}
 use Rattle.std.specs.FinMap as finite
 use Rattle.std.proofs.lemmas.List.{length-append, length-map, map-append}
@@ -37,6 +37,7 @@ use Rattle.mu_proof.specs.Proofs.{root}
 use Rattle.mu_check.specs.contracts.fact.Fact as row
 use Rattle.mu_check.specs.declared.cause.Cause.{Cause}
 use Rattle.mu_check.specs.declared.cause.Cause.TheVariants as cause
+use Rattle.mu_check.specs.declared.cause.Fault.{Fault}
 use Rattle.mu_check.specs.declared.allowed.Allowed.{Allowed}
 use Rattle.mu_check.specs.declared.fact.Fact.{Fact}
 use Rattle.mu_check.specs.declared.fact.Fact.TheVariants as fact
@@ -52,14 +53,15 @@ use Rattle.mu_check.specs.Blocks.{shadows, block_formed, block_cause}
 use Rattle.mu_check.specs.Causes.{test, is_fact, rule_cause, same_cause}
 use Rattle.mu_check.specs.Justifications.{refs_of, why_cause, justified_cause, line_cause}
 use Rattle.mu_check.specs.Verdicts.{labelled, checked, in_order, ends, ending_cause, root_cause, allowed_by, verdict_by, verdict}
-use Rattle.mu_check.specs.Places.{Place, outermost, inside, scope_at, EndsWith, IsAt, in_block, in_proof, MayCite, labels}
+use Rattle.mu_check.specs.Places.{Place, outermost, inside, scope_at, EndsWith, IsAt, in_block, in_proof, MayCite, HasDistinctLabels}
 use Rattle.mu_check.specs.Judgements.{AreKnown, IsElement, Fits, IsInstance, instance, HoldsBy, by_rule, by_hypothesis, by_sequent, by_definition, by_repeating, IsRightLine, IsRightBlock, IsRight, VerdictsAreExact}
 use Rattle.mu_check.proofs.CheckedEquations.{line-fault, ending}
 use Rattle.mu_check.proofs.SameLemmas.{equal_same, equal_self}
 use Rattle.mu_check.proofs.Counting.{neither, distinct_names, names_distinct, passes_contained, among_contained, contained_among}
 use Rattle.mu_check.proofs.Endings.{ends_with_last, last_of_ending}
-use Rattle.mu_check.proofs.ItemInduction.{item_ind}
-use Rattle.mu_check.proofs.Citing.{environment_at, found_cited, cited_found}
+use Rattle.mu_proof.proofs.ItemInduction.{item_ind}
+use Rattle.mu_check.specs.Tests.{environment_at}
+use Rattle.mu_check.proofs.Citing.{found_cited, cited_found}
 use Rattle.mu_check.proofs.Walking.{none_at, labels_once, or_none, all_pass, block_none, block_passes, next_outermost, next_inside}
 
 -- ---- tests
@@ -144,13 +146,13 @@ module _ (w : World) (s : Statement) where
 -- ---- one line, where what is found is what may be cited
 module _ (w : World) (s : Statement) (place : Place) where
   abbrev here : Environment
-  here = environment_at w (allowed_by w s) s place
+  here = environment_at s place
 
   abbrev Found : Type 0
   Found = (x : Ref) (f : Fact) → MayCite s place x f → gives here x ≡ Some f
 
   cited : (x : Ref) (f : Fact) → gives here x ≡ Some f → MayCite s place x f
-  cited = found_cited w (allowed_by w s) s place
+  cited = found_cited s place
 
   found_accessible : (x : Ref) (f : Fact) → gives here x ≡ Some f → is_accessible here x ≡ true
   found_accessible x f e = ap is_some e
@@ -366,7 +368,7 @@ module _ (w : World) (s : Statement) where
   none_shadows scope [] all = refl
   none_shadows scope (v ∷ vars) (h, all) = ap (λ b. b || list_any (shadows scope) vars) (false_from_ne_true (is_among scope v.name) (λ e. h (among_contained scope v.name e))) ∙ none_shadows scope vars all
 
-  right_block : (place : Place) (l : List ℕ) (vars : List TypedVar) (trees : List Tree) (items : List Item) → (checked w (allowed_by w s) (item.Block l vars trees items)).fault (environment_at w (allowed_by w s) s place) ≡ None → IsRightBlock w s place l vars trees items
+  right_block : (place : Place) (l : List ℕ) (vars : List TypedVar) (trees : List Tree) (items : List Item) → (checked w (allowed_by w s) (item.Block l vars trees items)).fault (environment_at s place) ≡ None → IsRightBlock w s place l vars trees items
   right_block place l vars trees items e =
       let passes = block_passes w (allowed_by w s) s place l vars trees items e in
       let fresh = tested (not (list_any (shadows (scope_at place)) vars)) cause.ShadowedVariable _ (unlabelled l (block_cause w (allowed_by w s) (scope_at place) vars trees) passes.0) in
@@ -408,33 +410,33 @@ module _ (w : World) (r : List ℕ) (proof : List Item) where
   right_by : (o : Option Statement) → finite.get w.rules r ≡ o → verdict_by w proof o ≡ None → IsRight w r proof
   right_by None e h = absurd (cc)
   right_by (Some s) e h =
-      let parts = or_none (in_order (map (checked w (allowed_by w s)) proof) (environment_at w (allowed_by w s) s (outermost []))) _ h in
-      let none : (place : Place) (i : Item) → IsAt proof place i → (checked w (allowed_by w s) i).fault (environment_at w (allowed_by w s) s place) ≡ None = none_at w (allowed_by w s) s proof parts.0 in
+      let parts = or_none (in_order (map (checked w (allowed_by w s)) proof) (environment_at s (outermost []))) _ h in
+      let none : (place : Place) (i : Item) → IsAt proof place i → (checked w (allowed_by w s) i).fault (environment_at s place) ≡ None = none_at w (allowed_by w s) s proof parts.0 in
       let last = root_right w s (ends (map (checked w (allowed_by w s)) proof)) s.claim.conclusion (unlabelled _ _ parts.1) in
       record {
         rule = s;
         there = e;
-        lines = λ place l t y at. right_line w s place t y (unlabelled l _ (sym (line-fault w (allowed_by w s) l t y (environment_at w (allowed_by w s) s place)) ∙ none place (item.Line l t y) at));
+        lines = λ place l t y at. right_line w s place t y (unlabelled l _ (sym (line-fault w (allowed_by w s) l t y (environment_at s place)) ∙ none place (item.Line l t y) at));
         blocks = λ place l vars trees items at. right_block w s place l vars trees items (none place (item.Block l vars trees items) at);
         last = last.0;
         ends = ends_with_last proof last.0 (sym (ending w (allowed_by w s) proof) ∙ last.1);
         concludes = last.2;
       }
 
-  module _ (apart : IsDistinct (pointwise nat_eq) (flat_map labels proof)) (right : IsRight w r proof) where
+  module _ (apart : HasDistinctLabels proof) (right : IsRight w r proof) where
     abbrev allowed : Allowed
     allowed = allowed_by w right.rule
 
     abbrev Passes : Item → Type 0
-    Passes i = (place : Place) → IsAt proof place i → (checked w allowed i).fault (environment_at w allowed right.rule place) ≡ None
+    Passes i = (place : Place) → IsAt proof place i → (checked w allowed i).fault (environment_at right.rule place) ≡ None
 
     found_at : (place : Place) (i : Item) → IsAt proof place i → Found w right.rule place
-    found_at place i at = cited_found w allowed right.rule place (labels_once proof apart place i at)
+    found_at place i at = cited_found right.rule place (labels_once proof apart place i at)
 
     line_passes : (l : List ℕ) (t : Tree) (y : Option Why) → Passes (item.Line l t y)
-    line_passes l t y place at = line-fault w allowed l t y (environment_at w allowed right.rule place) ∙ ap (labelled l) (none_right w right.rule place (found_at place (item.Line l t y) at) t y (right.lines place l t y at))
+    line_passes l t y place at = line-fault w allowed l t y (environment_at right.rule place) ∙ ap (labelled l) (none_right w right.rule place (found_at place (item.Line l t y) at) t y (right.lines place l t y at))
 
-    inner_passes : (place : Place) (l : List ℕ) (vars : List TypedVar) (trees : List Tree) (items : List Item) → AllByRecursion Passes items → IsAt proof place (item.Block l vars trees items) → in_order (map (checked w allowed) items) (environment_at w allowed right.rule (inside place l vars trees [])) ≡ None
+    inner_passes : (place : Place) (l : List ℕ) (vars : List TypedVar) (trees : List Tree) (items : List Item) → AllByRecursion Passes items → IsAt proof place (item.Block l vars trees items) → in_order (map (checked w allowed) items) (environment_at right.rule (inside place l vars trees [])) ≡ None
     inner_passes place l vars trees items all at =
         all_pass w allowed right.rule (inside place l vars trees) (next_inside w allowed right.rule place l vars trees) items Passes
         (λ front i later e fine. fine (inside place l vars trees front) (in_block place l vars trees front i later (subst (λ xs. IsAt proof place (item.Block l vars trees xs)) e at)))
@@ -452,7 +454,7 @@ module _ (w : World) (r : List ℕ) (proof : List Item) where
     each_passes [] = tt
     each_passes (i ∷ items) = (item_passes i, each_passes items)
 
-    all_in_order : in_order (map (checked w allowed) proof) (environment_at w allowed right.rule (outermost [])) ≡ None
+    all_in_order : in_order (map (checked w allowed) proof) (environment_at right.rule (outermost [])) ≡ None
     all_in_order =
         all_pass w allowed right.rule outermost (next_outermost w allowed right.rule) proof Passes
         (λ front i later e fine. fine (outermost front) (in_proof front i later e))
@@ -467,3 +469,10 @@ module _ (w : World) (r : List ℕ) (proof : List Item) where
 pub verdicts_are_exact : VerdictsAreExact
 unfolding VerdictsAreExact
 verdicts_are_exact w r proof = (right_by w r proof (finite.get w.rules r) refl, none_found w r proof)
+
+-- so what is found in a proof is none exactly where it is right
+pub found_right : {X : Type 0} (w : World) (r : List ℕ) (items proof : List Item) → items ≡ proof → HasDistinctLabels proof → (result : Result (Option Fault) X) → IfOk result (λ found. found ≡ verdict w r items) → IfOk result (λ found. (found ≡ None) ↔ IsRight w r proof)
+found_right w r items proof same apart (Err x) is = tt
+found_right w r items proof same apart (Ok found) is =
+    let e : found ≡ verdict w r proof = is ∙ ap (verdict w r) same in
+    (λ none. right_by w r proof (finite.get w.rules r) refl (sym e ∙ none), λ right. e ∙ none_found w r proof apart right)

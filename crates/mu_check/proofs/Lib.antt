@@ -4,10 +4,10 @@ pub mod Counting
 pub mod DistinctNames
 pub mod Endings
 pub mod GoalLemmas
-pub mod ItemInduction
 pub mod Judging
 pub mod Keeping
-pub mod LabelPlaces
+pub mod KnownLabels
 pub mod MetaTables
 pub mod SameLemmas
+pub mod Testing
 pub mod Walking

@@ -28,7 +28,7 @@ use Rattle.mu_proof.specs.declared.items.Item.TheVariants as item
 use Rattle.mu_check.specs.declared.fact.Fact.{Fact}
 use Rattle.mu_check.specs.declared.fact.Fact.TheVariants as fact
 use Rattle.mu_check.specs.Facts.{plain_fact, hypothesis_fact, instantiated_fact, entered}
-use Rattle.mu_check.specs.Places.{Place, inside, scope_at, IsAt, EndsWith, MayCite, labels}
+use Rattle.mu_check.specs.Places.{Place, inside, scope_at, IsAt, EndsWith, MayCite, HasDistinctLabels}
 use Rattle.mu_check.specs.Instances.{expressions, metas_of}
 use Rattle.mu_check.specs.Metas.{first_of}
 use Rattle.mu_check.specs.Hypotheses.{wanted, opened_fact}
@@ -133,4 +133,4 @@ pub record IsRight (w : World) (r : List ℕ) (proof : List Item) : Type 0 where
 
 -- a proof without a fault is right, whatever its labels are, and a right proof has no fault where no label stands twice
 unfoldable pub VerdictsAreExact : Type 0
-VerdictsAreExact = (w : World) (r : List ℕ) (proof : List Item) → (verdict w r proof ≡ None → IsRight w r proof) × (IsDistinct (pointwise nat_eq) (flat_map labels proof) → IsRight w r proof → verdict w r proof ≡ None)
+VerdictsAreExact = (w : World) (r : List ℕ) (proof : List Item) → (verdict w r proof ≡ None → IsRight w r proof) × (HasDistinctLabels proof → IsRight w r proof → verdict w r proof ≡ None)

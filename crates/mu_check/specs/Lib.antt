@@ -13,4 +13,5 @@ pub mod Lines
 pub mod Metas
 pub mod Places
 pub mod Same
+pub mod Tests
 pub mod Verdicts

@@ -1,7 +1,8 @@
 -- Where the items of a proof are, and what may be cited there.
-use Rattle.std.specs.Prelude.{◌≡◌, ℕ, List, [], ◌∷◌, ◌++◌, Option, Some}
-use Rattle.std.specs.List.{Contains}
-use Rattle.mu_tree.specs.Trees.{joined}
+use Rattle.std.specs.Prelude.{◌≡◌, ℕ, List, [], ◌∷◌, ◌++◌, map, Option, Some}
+use Rattle.std.specs.Bool.{nat_eq}
+use Rattle.std.specs.List.{Contains, IsDistinct}
+use Rattle.std.specs.Cmp.Lexicographic.{pointwise}
 use Rattle.mu_tree.specs.declared.trees.Tree.{Tree}
 use Rattle.mu_tree.specs.declared.claim.TypedVar.{TypedVar}
 use Rattle.mu_tree.specs.declared.claim.Hyp.{Hyp}
@@ -11,9 +12,8 @@ use Rattle.mu_tree.specs.declared.why.Why.{Why}
 use Rattle.mu_decl.specs.Claims.{names_of}
 use Rattle.mu_decl.specs.declared.declaration.Statement.{Statement}
 use Rattle.mu_proof.specs.declared.items.Item.{Item}
-use Rattle.mu_proof.specs.declared.items.Item.TheOpen.{Item-F, Line, Block}
-use Rattle.mu_proof.specs.declared.items.Item.TheFolds.{fold-Item}
 use Rattle.mu_proof.specs.declared.items.Item.TheVariants as item
+use Rattle.mu_proof.specs.Items.{label_of, all_items}
 use Rattle.mu_check.specs.declared.fact.Fact.{Fact}
 use Rattle.mu_check.specs.Facts.{plain_fact, closed, hypothesis_fact, assumptions_of}
 use Rattle.mu_check.specs.Environments.{nth}
@@ -75,11 +75,6 @@ pub data MayCite (s : Statement) : Place → Ref → Fact → Type 0 where
       → MayCite s around x f
       → MayCite s (inside around l vars trees items) x f
 
--- an item's label, and those of the items in it
-abbrev pub labels_step : Item-F (List (List ℕ)) → List (List ℕ)
-labels_step (Line l t y) = l ∷ []
-labels_step (Block l vars trees inner) = l ∷ joined inner
-
--- the labels of an item and of the items in it
-unfoldable pub labels : Item → List (List ℕ)
-labels = fold-Item (List (List ℕ)) labels_step
+-- no label stands twice in a proof, in whatever blocks
+abbrev pub HasDistinctLabels : List Item → Type 0
+HasDistinctLabels proof = IsDistinct (pointwise nat_eq) (map label_of (all_items proof))

@@ -7,9 +7,9 @@ ghost use Rattle.mu_check.specs.Blocks.{shadows, block_formed, block_cause};
 use crate::allowed::Allowed;
 use crate::cause::Cause;
 use mu_decl::{
-    Context, add_expressions, add_type_occurrences, all_formed, all_occurrences, types_formed,
+    Around, Context, Variables, add_type_occurrences, all_formed, all_occurrences, types_formed,
 };
-use mu_tree::{Name, Names, NoMemory, Sequence, Tree, TypedVar};
+use mu_tree::{Name, NoMemory, Sequence, Tree, TypedVar};
 use std::alloc::Global;
 
 /// A block, without its items.
@@ -23,27 +23,28 @@ pub struct BlockHead<'a> {
     pub assumptions: &'a [Tree],
 }
 
-fn shadow(scope: &Names, vars: &[TypedVar]) -> bool
+fn shadow(scope: &Variables, vars: &[TypedVar]) -> bool
     ensures { result ≡ list_any (shadows scope.now) vars.now }
 {
     vars.iter().any(|var| scope.contains(&var.name))
 }
 
+#[tactic(auto, using(mu_decl::proofs::Layers::variable_equations))]
 fn block_formed<C: Context>(
     alloc: Global,
     context: &C,
     allowed: &Allowed,
-    scope: &Names,
+    scope: &Variables,
     head: BlockHead,
 ) -> Result<bool, NoMemory>
     ensures { IfOk result (λ yes. yes ≡ block_formed (C.world context.now) allowed.now scope.now head.entry.vars.now head.entry.assumptions.now) }
 {
-    let mut inner = Sequence::new(alloc);
-    add_expressions(alloc, scope.items(), &mut inner)?;
-    if !types_formed(alloc, context, &allowed.seen, &mut inner, head.vars)? {
+    let mut own = Variables::new(alloc);
+    if !types_formed(alloc, context, &allowed.seen, scope, &mut own, head.vars)? {
         return Ok(false);
     }
-    all_formed(alloc, context, &allowed.seen, &mut inner, head.assumptions)
+    let around = Around { scope, own: &own };
+    all_formed(alloc, context, &allowed.seen, around, head.assumptions)
 }
 
 /// The first test that a block fails before its items are looked at.
@@ -51,7 +52,7 @@ pub fn block_cause<C: Context>(
     alloc: Global,
     context: &C,
     allowed: &Allowed,
-    scope: &Names,
+    scope: &Variables,
     head: BlockHead,
 ) -> Result<Option<Cause>, NoMemory>
     ensures { IfOk result (λ cause. cause ≡ block_cause (C.world context.now) allowed.now scope.now head.entry.vars.now head.entry.assumptions.now) }

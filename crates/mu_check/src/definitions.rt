@@ -1,6 +1,6 @@
 ghost use Rattle.std.specs.Prelude.{◌≡◌, [], ◌++◌, IfOk, OnOk, length, nat_eq};
 ghost use Rattle.std.specs.Option.{option_copied};
-ghost use Rattle.mu_decl.specs.Formation.{occurrences};
+ghost use Rattle.mu_decl.specs.Formation.{is_formed, occurrences};
 ghost use Rattle.mu_decl.specs.Nameless.{nameless};
 ghost use Rattle.mu_decl.specs.Unfolding.{delta_of};
 ghost use Rattle.mu_check.specs.Same.{equal_facts};
@@ -13,8 +13,8 @@ use crate::cause::Cause;
 use crate::fact::{Fact, difference};
 use crate::lines::PlacedLine;
 use mu_decl::{
-    Bare, ConstDecl, Context, DeltaRule, Scope, Scoped, delta_of, enter, is_formed, occurrences,
-    unfolded,
+    Around, Bare, Binders, ConstDecl, Context, DeltaRule, Scope, Scoped, Variables, delta_of,
+    enter, is_formed_within, occurrences, unfolded,
 };
 use mu_tree::{Definition, Kind, Name, Names, NoMemory, Sequence, Shape, Tree};
 use std::alloc::Global;
@@ -46,19 +46,52 @@ fn body_formed<C: Context>(
     if kinds.len() != definition.params.len() {
         return Ok(false);
     }
-    let seen = context.seen(alloc, &declared.theory)?;
-    let mut scope = parameters(alloc, definition.params.items(), kinds)?;
-    if !is_formed(
-        alloc,
-        context,
-        &seen,
-        &mut scope,
-        declared.result,
-        &definition.body,
-    )? {
+    if !is_body(alloc, context, declared, definition, kinds)? {
         return Ok(false);
     }
     has_no_metas(alloc, context, declared.result, &definition.body)
+}
+
+/// Whether the body of a definition is well formed in the constant's unit.
+fn is_body<C: Context>(
+    alloc: Global,
+    context: &C,
+    declared: &ConstDecl,
+    definition: &Definition,
+    kinds: &[Kind],
+) -> Result<bool, NoMemory>
+    requires { length definition.now.params ≡ length kinds.now }
+    ensures { IfOk result (λ yes. yes ≡ is_formed (C.world context.now) ((C.world context.now).seen declared.now.theory) (parameters definition.now.params kinds.now) declared.now.result definition.now.body) }
+{
+    let seen = context.seen(alloc, &declared.theory)?;
+    let mut inner = parameters(alloc, definition.params.items(), kinds)?;
+    is_formed_in(
+        alloc,
+        context,
+        &seen,
+        &mut inner,
+        declared.result,
+        &definition.body,
+    )
+}
+
+/// Whether a tree is well formed with variables of any kind in scope.
+fn is_formed_in<C: Context>(
+    alloc: Global,
+    context: &C,
+    seen: &Names,
+    inner: &mut Scope,
+    kind: Kind,
+    tree: &Tree,
+) -> Result<bool, NoMemory>
+    ensures { IfOk result (λ yes. yes ≡ is_formed (C.world context.now) seen.now inner.old kind tree.now) }
+{
+    let none = Variables::new(alloc);
+    let around = Around {
+        scope: &none,
+        own: &none,
+    };
+    is_formed_within(alloc, context, seen, around, inner, kind, tree)
 }
 
 /// Whether no metavariable is in a tree of this kind.
@@ -133,7 +166,7 @@ fn unfolded_line(alloc: Global, line: PlacedLine, delta: &DeltaRule) -> Result<F
 fn entered_tree(alloc: Global, line: PlacedLine) -> Result<Bare, NoMemory>
     ensures { IfOk result (λ bare. bare ≡ nameless line.entry.environment.now.scope [] line.entry.tree.now) }
 {
-    let bound = Names::new(alloc);
+    let bound = Binders::new(alloc);
     enter(alloc, line.tree, &line.environment.scope, &bound)
 }
 

@@ -9,7 +9,8 @@ use crate::blocks::BlockHead;
 use crate::fact::Fact;
 use crate::facts::{assumptions_of, hypothesis_fact};
 use crate::labels::KnownItems;
-use mu_tree::{Claim, Name, Names, NoMemory, Ref, Sequence};
+use mu_decl::Variables;
+use mu_tree::{Claim, Name, NoMemory, Ref, Sequence};
 use std::alloc::Global;
 
 /// An item that may be cited, with what it gives.
@@ -30,7 +31,7 @@ pub struct KnownBlock {
 #[derive(Drop)]
 pub struct Environment {
     /// The variables of the enclosing blocks, the outermost block's first.
-    pub scope: Names,
+    pub scope: Variables,
     /// The hypotheses of the rule that is proved.
     pub hyps: Sequence<Fact>,
     /// The enclosing blocks, the outermost first.
@@ -107,7 +108,7 @@ fn starting(alloc: Global, hyps: Sequence<Fact>) -> Environment
     ensures { result ≡ starting hyps }
 {
     Environment {
-        scope: Sequence::new(alloc),
+        scope: Variables::new(alloc),
         hyps,
         blocks: Sequence::new(alloc),
         items: KnownItems::new(alloc),

@@ -4,8 +4,8 @@ ghost use Rattle.mu_decl.specs.Claims.{names_of};
 ghost use Rattle.mu_check.specs.Facts.{types_under, closed, hypothesis_fact, typing, typing_fact, typing_of, plain_fact, typings, entered};
 
 use crate::fact::Fact;
-use mu_decl::{Abstraction, Bare, Bares, enter};
-use mu_tree::{Given, Hyp, Name, Names, NoMemory, Sequence, Tree, TypedVar};
+use mu_decl::{Abstraction, Bare, Bares, Binders, Variables, enter};
+use mu_tree::{Given, Hyp, Name, NoMemory, Sequence, Tree, TypedVar};
 use sqlite_items::Items;
 use std::alloc::Global;
 
@@ -13,8 +13,8 @@ use std::alloc::Global;
 pub fn enter_all(
     alloc: Global,
     trees: &[Tree],
-    scope: &Names,
-    bound: &Names,
+    scope: &Variables,
+    bound: &Binders,
 ) -> Result<Bares, NoMemory>
     ensures { IfOk result (λ all. all ≡ map (nameless scope.now bound.now) trees.now) }
 {
@@ -28,8 +28,8 @@ pub fn enter_all(
 /// The types of some variables, each under the variables before it, which are bound afterwards.
 fn types_under(
     alloc: Global,
-    scope: &Names,
-    bound: &mut Names,
+    scope: &Variables,
+    bound: &mut Binders,
     vars: &[TypedVar],
 ) -> Result<Bares, NoMemory>
     ensures types { IfOk result (λ types. types ≡ types_under scope.now bound.old vars.now) }
@@ -38,7 +38,7 @@ fn types_under(
     let mut types = Items::new(alloc);
     for var in vars {
         types.push(enter(alloc, &var.ty, scope, bound)?)?;
-        bound.push(var.name.copy(alloc)?)?;
+        bound.push(alloc, &var.name)?;
     }
     Ok(types)
 }
@@ -46,14 +46,14 @@ fn types_under(
 /// A sequent, closed over its variables.
 pub fn closed(
     alloc: Global,
-    scope: &Names,
+    scope: &Variables,
     vars: &[TypedVar],
     premises: &[Tree],
     upshot: &Tree,
 ) -> Result<Fact, NoMemory>
     ensures { IfOk result (λ fact. fact ≡ closed scope.now vars.now premises.now upshot.now) }
 {
-    let mut bound = Sequence::new(alloc);
+    let mut bound = Binders::new(alloc);
     let types = types_under(alloc, scope, &mut bound, vars)?;
     let premises = enter_all(alloc, premises, scope, &bound)?;
     let upshot = enter(alloc, upshot, scope, &bound)?;
@@ -65,10 +65,10 @@ pub fn closed(
 }
 
 /// A tree with these variables in scope.
-pub fn plain_fact(alloc: Global, scope: &Names, tree: &Tree) -> Result<Fact, NoMemory>
+pub fn plain_fact(alloc: Global, scope: &Variables, tree: &Tree) -> Result<Fact, NoMemory>
     ensures { IfOk result (λ fact. fact ≡ plain_fact scope.now tree.now) }
 {
-    let bound = Sequence::new(alloc);
+    let bound = Binders::new(alloc);
     Ok(Fact::Plain(enter(alloc, tree, scope, &bound)?))
 }
 
@@ -76,7 +76,7 @@ pub fn plain_fact(alloc: Global, scope: &Names, tree: &Tree) -> Result<Fact, NoM
 pub fn stated_fact(alloc: Global, tree: &Tree) -> Result<Fact, NoMemory>
     ensures { IfOk result (λ fact. fact ≡ plain_fact [] tree.now) }
 {
-    let scope = Sequence::new(alloc);
+    let scope = Variables::new(alloc);
     plain_fact(alloc, &scope, tree)
 }
 
@@ -84,7 +84,7 @@ pub fn stated_fact(alloc: Global, tree: &Tree) -> Result<Fact, NoMemory>
 pub fn hypothesis_fact(alloc: Global, hypothesis: &Hyp) -> Result<Fact, NoMemory>
     ensures { IfOk result (λ fact. fact ≡ hypothesis_fact hypothesis.now) }
 {
-    let scope = Sequence::new(alloc);
+    let scope = Variables::new(alloc);
     match hypothesis {
         Hyp::Plain(tree) => plain_fact(alloc, &scope, tree),
         Hyp::Sequent {
@@ -120,30 +120,34 @@ fn typing(alloc: Global) -> Result<Name, NoMemory>
     Name::read(alloc, b"typing").map_err(|_| NoMemory)
 }
 
-fn typing_of(alloc: Global, scope: &Names, var: &TypedVar) -> Result<Fact, NoMemory>
+fn typing_of(alloc: Global, scope: &Variables, var: &TypedVar) -> Result<Fact, NoMemory>
     ensures { IfOk result (λ fact. fact ≡ typing_of scope.now var.now) }
 {
-    let bound = Sequence::new(alloc);
+    let bound = Binders::new(alloc);
     let ty = enter(alloc, &var.ty, scope, &bound)?;
     typing_fact(alloc, &Bare::Var(var.name.copy(alloc)?), ty)
 }
 
 /// The typings of some variables, which come into scope one after another.
-fn typings(alloc: Global, scope: &mut Names, vars: &[TypedVar]) -> Result<Sequence<Fact>, NoMemory>
+fn typings(
+    alloc: Global,
+    scope: &mut Variables,
+    vars: &[TypedVar],
+) -> Result<Sequence<Fact>, NoMemory>
     ensures facts { IfOk result (λ facts. facts ≡ typings scope.old vars.now) }
     ensures scope { OnOk result (scope.new ≡ scope.old ++ names_of vars.now) }
 {
     let mut facts = Sequence::new(alloc);
     for var in vars {
         facts.push(typing_of(alloc, scope, var)?)?;
-        scope.push(var.name.copy(alloc)?)?;
+        scope.push(alloc, var.name.copy(alloc)?)?;
     }
     Ok(facts)
 }
 
 fn add_assumptions(
     alloc: Global,
-    scope: &Names,
+    scope: &Variables,
     trees: &[Tree],
     facts: &mut Sequence<Fact>,
 ) -> Result<(), NoMemory>
@@ -158,7 +162,7 @@ fn add_assumptions(
 /// The assumptions of a block, whose variables come into scope.
 pub fn assumptions_of(
     alloc: Global,
-    scope: &mut Names,
+    scope: &mut Variables,
     vars: &[TypedVar],
     trees: &[Tree],
 ) -> Result<Sequence<Fact>, NoMemory>
@@ -170,21 +174,36 @@ pub fn assumptions_of(
     Ok(facts)
 }
 
+/// The body of what stands for a metavariable, under its parameters.
+fn entered_body(alloc: Global, scope: &Variables, given: &Given) -> Result<Bare, NoMemory>
+    ensures { IfOk result (λ body. body ≡ nameless scope.now given.now.params given.now.body) }
+{
+    let bound = Binders::of(alloc, given.params.items())?;
+    enter(alloc, &given.body, scope, &bound)
+}
+
+fn entered(alloc: Global, scope: &Variables, given: &Given) -> Result<Abstraction, NoMemory>
+    ensures { IfOk result (λ abstraction. abstraction ≡ entered scope.now given.now) }
+{
+    let body = entered_body(alloc, scope, given)?;
+    Ok(Abstraction {
+        meta: given.meta.copy(alloc)?,
+        count: given.params.len(),
+        body,
+    })
+}
+
 /// What stands for some metavariables, with these variables in scope.
 pub fn entered_all(
     alloc: Global,
-    scope: &Names,
+    scope: &Variables,
     given: &[Given],
 ) -> Result<Sequence<Abstraction>, NoMemory>
     ensures { IfOk result (λ all. all ≡ map (entered scope.now) given.now) }
 {
     let mut all = Sequence::new(alloc);
     for each in given {
-        all.push(Abstraction {
-            meta: each.meta.copy(alloc)?,
-            count: each.params.len(),
-            body: enter(alloc, &each.body, scope, &each.params)?,
-        })?;
+        all.push(entered(alloc, scope, each)?)?;
     }
     Ok(all)
 }

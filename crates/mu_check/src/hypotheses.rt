@@ -1,6 +1,9 @@
 ghost use Rattle.std.specs.Prelude.{◌≡◌, [], ◌∷◌, ◌++◌, ◌+◌, IfOk, OnOk, map, nat_eq, length};
 ghost use Rattle.std.specs.Option.{option_copied};
 ghost use Rattle.std.specs.Cmp.Lexicographic.{pointwise};
+ghost use Rattle.std.specs.List.{list_all};
+ghost use Rattle.mu_tree.specs.declared.claim.Kind.TheVariants.{E};
+ghost use Rattle.mu_decl.specs.Formation.{is_formed, expression};
 ghost use Rattle.mu_decl.specs.Nameless.{nameless};
 ghost use Rattle.mu_decl.specs.Opening.{opened};
 ghost use Rattle.mu_check.specs.Facts.{typing_fact};
@@ -11,7 +14,9 @@ use crate::environments::{Environment, gives};
 use crate::fact::{Fact, difference, is_equal};
 use crate::facts::{enter_all, plain_fact, typing_fact};
 use crate::lines::PlacedLine;
-use mu_decl::{Bare, Bares, Context, add_expressions, all_formed, all_occurrences, opened};
+use mu_decl::{
+    Around, Bare, Bares, Binders, Context, Variables, all_formed, all_occurrences, opened,
+};
 use mu_tree::{NoMemory, Ref, Sequence, Tree};
 use sqlite_items::Items;
 use std::alloc::Global;
@@ -126,6 +131,24 @@ fn give_wanted(
     Ok(all_give(environment, refs, facts.items()))
 }
 
+/// Whether terms are well-formed elements where the line stands.
+#[tactic(auto, using(mu_decl::proofs::Layers::variable_equations))]
+fn are_elements<C: Context>(
+    alloc: Global,
+    context: &C,
+    line: PlacedLine,
+    terms: &[Tree],
+) -> Result<bool, NoMemory>
+    ensures { IfOk result (λ yes. yes ≡ list_all (is_formed (C.world context.now) line.entry.allowed.now.seen (map expression line.entry.environment.now.scope) E) terms.now) }
+{
+    let none = Variables::new(alloc);
+    let around = Around {
+        scope: &line.environment.scope,
+        own: &none,
+    };
+    all_formed(alloc, context, &line.allowed.seen, around, terms)
+}
+
 fn terms_formed<C: Context>(
     alloc: Global,
     context: &C,
@@ -134,9 +157,7 @@ fn terms_formed<C: Context>(
 ) -> Result<bool, NoMemory>
     ensures { IfOk result (λ yes. yes ≡ terms_formed (C.world context.now) line.entry.allowed.now line.entry.environment.now terms.now) }
 {
-    let mut scope = Sequence::new(alloc);
-    add_expressions(alloc, line.environment.scope.items(), &mut scope)?;
-    if !all_formed(alloc, context, &line.allowed.seen, &mut scope, terms)? {
+    if !are_elements(alloc, context, line, terms)? {
         return Ok(false);
     }
     let mut found = Sequence::new(alloc);
@@ -193,7 +214,7 @@ fn entered_terms(
 ) -> Result<Bares, NoMemory>
     ensures { IfOk result (λ trees. trees ≡ map (nameless environment.now.scope []) terms.now) }
 {
-    let bound = Sequence::new(alloc);
+    let bound = Binders::new(alloc);
     enter_all(alloc, terms, &environment.scope, &bound)
 }
 

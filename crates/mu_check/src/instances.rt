@@ -7,7 +7,7 @@ ghost use Rattle.mu_check.specs.Instances.{are_distinct, AreSet, expressions, fi
 
 use crate::allowed::{Allowed, has_known_metas};
 use crate::metas::Metas;
-use mu_decl::{Context, Occurrence, Scope, add_expressions, is_formed};
+use mu_decl::{Around, Context, Occurrence, Variables, is_formed};
 use mu_tree::{Given, Kind, Name, NameSet, Names, NoMemory, Sequence};
 use std::alloc::Global;
 
@@ -40,21 +40,12 @@ fn have_metas(set: &NameSet, all: &[Occurrence]) -> bool
     all.iter().all(|occurrence| set.has(&occurrence.meta))
 }
 
-fn expressions(alloc: Global, scope: &Names, names: &Names) -> Result<Scope, NoMemory>
-    ensures { IfOk result (λ all. all ≡ expressions scope.now names.now) }
-{
-    let mut all = Sequence::new(alloc);
-    add_expressions(alloc, scope.items(), &mut all)?;
-    add_expressions(alloc, names.items(), &mut all)?;
-    Ok(all)
-}
-
 /// Whether a body may stand for its metavariable, which has to be one of the cited claim.
 fn fits<C: Context>(
     alloc: Global,
     context: &C,
     allowed: &Allowed,
-    scope: &Names,
+    scope: &Variables,
     all: &Metas,
     given: &Given,
 ) -> Result<bool, NoMemory>
@@ -81,21 +72,22 @@ fn is_body<C: Context>(
     alloc: Global,
     context: &C,
     allowed: &Allowed,
-    scope: &Names,
+    scope: &Variables,
     kind: Kind,
     given: &Given,
 ) -> Result<bool, NoMemory>
     ensures { IfOk result (λ yes. yes ≡ is_formed (C.world context.now) allowed.now.seen (expressions scope.now given.now.params) kind given.now.body) }
 {
-    let mut inner = expressions(alloc, scope, &given.params)?;
-    is_formed(alloc, context, &allowed.seen, &mut inner, kind, &given.body)
+    let own = Variables::of(alloc, given.params.items())?;
+    let around = Around { scope, own: &own };
+    is_formed(alloc, context, &allowed.seen, around, kind, &given.body)
 }
 
 fn all_fit<C: Context>(
     alloc: Global,
     context: &C,
     allowed: &Allowed,
-    scope: &Names,
+    scope: &Variables,
     all: &Metas,
     given: &[Given],
 ) -> Result<bool, NoMemory>
@@ -125,7 +117,7 @@ pub fn is_instance<C: Context>(
     alloc: Global,
     context: &C,
     allowed: &Allowed,
-    scope: &Names,
+    scope: &Variables,
     all: &Metas,
     given: &[Given],
 ) -> Result<bool, NoMemory>

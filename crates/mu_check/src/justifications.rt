@@ -22,8 +22,8 @@ use crate::hypotheses::{hypothesis_cause, plain_cause};
 use crate::instances::is_instance;
 use crate::lines::PlacedLine;
 use crate::metas::Metas;
-use mu_decl::{Abstractions, Context, Statement, add_expressions, claim_occurrences, is_formed};
-use mu_tree::{Claim, Given, Hyp, Kind, Name, NoMemory, Ref, Sequence, Tree, Why};
+use mu_decl::{Abstractions, Around, Context, Statement, Variables, claim_occurrences, is_formed};
+use mu_tree::{Claim, Given, Hyp, Kind, Name, NoMemory, Ref, Tree, Why};
 use std::alloc::Global;
 
 /// Whether a reference gives an instantiated hypothesis.
@@ -300,16 +300,20 @@ fn justified_cause<C: Context>(
 }
 
 /// Whether a line says an element.
+#[tactic(auto, using(mu_decl::proofs::Layers::variable_equations))]
 fn is_element<C: Context>(alloc: Global, context: &C, line: PlacedLine) -> Result<bool, NoMemory>
     ensures { IfOk result (λ yes. yes ≡ is_formed (C.world context.now) line.entry.allowed.now.seen (map expression line.entry.environment.now.scope) E line.entry.tree.now) }
 {
-    let mut scope = Sequence::new(alloc);
-    add_expressions(alloc, line.environment.scope.items(), &mut scope)?;
+    let none = Variables::new(alloc);
+    let around = Around {
+        scope: &line.environment.scope,
+        own: &none,
+    };
     is_formed(
         alloc,
         context,
         &line.allowed.seen,
-        &mut scope,
+        around,
         Kind::E,
         line.tree,
     )

@@ -1,7 +1,8 @@
 ghost use Rattle.std.specs.Prelude.{◌≡◌, ◌++◌, ◌∷◌, [], length, take, IfOk, OnOk, OnErr};
 ghost use Rattle.std.specs.Option.{option_copied};
 ghost use Rattle.std.specs.FinMap as finite;
-ghost use Rattle.mu_check.specs.Labels.{item_of, given_if, placed, with_place};
+ghost use Rattle.mu_decl.specs.Finding.{if_called, placed, with_place};
+ghost use Rattle.mu_check.specs.Labels.{label_of, item_of};
 
 use crate::environments::KnownItem;
 use crate::fact::Fact;
@@ -24,7 +25,8 @@ impl Model for KnownItems {
     ghost use Rattle.std.specs.Coded.{coded_list};
     ghost use Rattle.mu_check.specs.contracts.environments.KnownItem as item;
     ghost use Rattle.mu_check.specs.declared.environments.KnownItem.{KnownItem};
-    ghost use Rattle.mu_check.specs.Labels.{Finds};
+    ghost use Rattle.mu_decl.specs.Finding.{Finds};
+    ghost use Rattle.mu_check.specs.Labels.{label_of};
 
     ghost Value = { List KnownItem };
 
@@ -32,7 +34,7 @@ impl Model for KnownItems {
 
     ghost view = { λ known. known.items };
 
-    ghost invariant = { λ known. Finds known.places known.items };
+    ghost invariant = { λ known. Finds label_of known.places known.items };
 }
 
 impl KnownItems {
@@ -54,11 +56,14 @@ impl KnownItems {
     }
 
     /// What the first item of a label gives.
-    #[tactic(auto, using(crate::proofs::LabelPlaces::found))]
+    #[tactic(auto, using(crate::proofs::KnownLabels::found_item))]
     pub fn find(&self, label: &Name) -> Option<&Fact>
         ensures { option_copied result ≡ item_of self.now label.now }
     {
-        placed(self.items.items(), label, self.places.get(label))
+        match placed(self.items.items(), label, self.places.get(label)) {
+            Some(item) => Some(&item.gives),
+            None => None,
+        }
     }
 
     /// Adds an item at the end.
@@ -75,7 +80,7 @@ impl KnownItems {
     }
 
     /// Keeps the first `count` items.
-    #[tactic(auto, using(crate::proofs::LabelPlaces::finds_fewer))]
+    #[tactic(auto, using(mu_decl::proofs::Finding::finds_fewer))]
     pub fn truncate(&mut self, count: usize)
         ensures { self.new ≡ take count self.old }
     {
@@ -83,20 +88,20 @@ impl KnownItems {
     }
 }
 
-fn given_if<'a>(label: &Name, item: Option<&'a KnownItem>) -> Option<&'a Fact>
-    ensures { option_copied result ≡ given_if label.now (option_copied item.entry) }
+fn if_labelled<'a>(label: &Name, item: Option<&'a KnownItem>) -> Option<&'a KnownItem>
+    ensures { option_copied result ≡ if_called label_of label.now (option_copied item.entry) }
 {
     match item {
-        Some(item) if item.label == *label => Some(&item.gives),
+        Some(item) if item.label == *label => Some(item),
         _ => None,
     }
 }
 
-fn placed<'a>(items: &'a [KnownItem], label: &Name, place: Option<&usize>) -> Option<&'a Fact>
-    ensures { option_copied result ≡ placed items.now label.now (option_copied place.entry) }
+fn placed<'a>(items: &'a [KnownItem], label: &Name, place: Option<&usize>) -> Option<&'a KnownItem>
+    ensures { option_copied result ≡ placed label_of items.now label.now (option_copied place.entry) }
 {
     match place {
-        Some(place) => given_if(label, items.get(*place)),
+        Some(place) => if_labelled(label, items.get(*place)),
         None => None,
     }
 }
@@ -108,7 +113,7 @@ fn place_next(
     label: &Name,
     places: &mut Table<usize>,
 ) -> Result<(), NoMemory>
-    ensures ok { OnOk result (places.new ≡ with_place items.now label.now places.old) }
+    ensures ok { OnOk result (places.new ≡ with_place label_of items.now label.now places.old) }
     ensures err { OnErr result (places.new ≡ places.old) }
 {
     if placed(items, label, places.get(label)).is_some() {

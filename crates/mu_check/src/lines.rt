@@ -24,7 +24,7 @@ fn lines(item: &Item) -> u64
 {
     match item {
         Item::Line { .. } => 1,
-        Item::Block { items, .. } => lines_of(items.as_slice()),
+        Item::Block { items, .. } => lines_of(items.items()),
     }
 }
 

@@ -1,11 +1,12 @@
-ghost use Rattle.std.specs.Prelude.{◌≡◌, ◌≤◌, IfOk, OnOk, map, None, Some};
+ghost use Rattle.std.specs.Prelude.{◌≡◌, ◌≤◌, ◌↔◌, IfOk, OnOk, map, None, Some};
 ghost use Rattle.std.specs.Option.{option_copied};
 ghost use Rattle.mu_proof.specs.Proofs.{root};
 ghost use Rattle.mu_check.specs.Facts.{plain_fact};
 ghost use Rattle.mu_check.specs.Environments.{Keeps, with_item, within, left};
 ghost use Rattle.mu_check.specs.Justifications.{line_cause};
 ghost use Rattle.mu_check.specs.Blocks.{block_cause};
-ghost use Rattle.mu_check.specs.Judgements.{VerdictsAreExact};
+ghost use Rattle.mu_check.specs.Judgements.{IsRight, VerdictsAreExact};
+ghost use Rattle.mu_check.specs.Tests.{VerdictsAreByPlace, CitationsAreByPlace};
 ghost use Rattle.mu_check.specs.Verdicts.{labelled, line_tree, last_line, ending_cause, checked, in_order, with_block, allowed_by, verdict};
 ghost use Rattle.mu_check.specs.Goals.{conclusion_cause, goal_by, goal_fault, KeepsGoal, IsGoalOf, IsChecker};
 ghost use Rattle.mu_tables.specs.Work.{raised};
@@ -168,7 +169,7 @@ fn item_fault<C: Context>(
                 vars,
                 assumptions,
             };
-            let items = items.as_slice();
+            let items = items.items();
             let outer = extent_of(environment);
             if let Some(found) = open_block(alloc, context, allowed, environment, head)? {
                 return Ok(Some(found));
@@ -252,9 +253,9 @@ fn allowed_by<C: Context>(
 fn goal_by<C: Context>(alloc: Global, context: &C, statement: &Statement) -> Result<Goal, NoMemory>
     ensures { IfOk result (λ goal. goal ≡ goal_by (C.world context.now) statement.now) }
 {
-    let conclusion = stated_fact(alloc, &statement.claim.conclusion)?;
     let allowed = allowed_by(alloc, context, statement)?;
     let environment = start(alloc, &statement.claim)?;
+    let conclusion = stated_fact(alloc, &statement.claim.conclusion)?;
     Ok(Goal {
         allowed,
         environment,
@@ -365,6 +366,10 @@ impl Checker {
         ensures verdict { IfOk result (λ found. found ≡ verdict (C.world context.now) self.old.rule proof.now) }
         ensures kept { OnOk result (IsChecker (C.world context.now) self.new) }
         ensures rule { OnOk result (self.new.rule ≡ self.old.rule) }
+        ensures right { IfOk result (λ found. (found ≡ None) ↔ IsRight (C.world context.now) self.old.rule proof.now) }
+        ensures exact { VerdictsAreExact }
+        ensures placed { VerdictsAreByPlace }
+        ensures cited { CitationsAreByPlace }
     {
         count(proof, work);
         verdict(alloc, context, proof.items(), &self.rule, &mut self.goal)
@@ -386,7 +391,6 @@ fn count(proof: &Proof, work: &mut Work)
 /// # Errors
 ///
 /// `NoMemory` may come at any proof.
-#[tactic(auto, using(crate::proofs::Judging::verdicts_are_exact))]
 pub fn check_proof<C: Context>(
     alloc: Global,
     context: &C,
@@ -396,7 +400,10 @@ pub fn check_proof<C: Context>(
 ) -> Result<Verdict, NoMemory>
     ensures work { work.new.lines ≡ raised work.old.lines (lines_of proof.now) }
     ensures verdict { IfOk result (λ found. found ≡ verdict (C.world context.now) rule.now proof.now) }
-    ensures law { VerdictsAreExact }
+    ensures right { IfOk result (λ found. (found ≡ None) ↔ IsRight (C.world context.now) rule.now proof.now) }
+    ensures exact { VerdictsAreExact }
+    ensures placed { VerdictsAreByPlace }
+    ensures cited { CitationsAreByPlace }
 {
     count(proof, work);
     let mut goal = goal_of(alloc, context, rule)?;

@@ -1,116 +1,150 @@
 -- Commands are read exactly.
-use Rattle.std.proofs.Common.{◌≡◌, ℕ, Bool, List, [], ◌∷◌, ◌++◌, refl, ap, sym, ◌∙◌, subst, append-nil}
-use Rattle.std.specs.Prelude.{codes}
+use Rattle.std.proofs.Common.{◌≡◌, ℕ, Bool, true, false, List, [], ◌∷◌, ◌++◌, refl, ap, sym, ◌∙◌, subst, append-nil}
+use Rattle.std.specs.Prelude.{codes, ◌&&◌}
+use Rattle.std.proofs.lemmas.Bool.{and_parts}
 use Rattle.mu_grammar.specs.declared.symbol.Mark.{Mark}
-use Rattle.mu_grammar.specs.declared.symbol.Mark.TheVariants.{Colon}
+use Rattle.mu_grammar.specs.declared.symbol.Mark.TheVariants.{And}
 use Rattle.mu_grammar.specs.Lexemes.{Lexeme, mark}
 use Rattle.mu_grammar.specs.Parts.{Nothing, End, given_back, Then, chain}
 use Rattle.mu_grammar.specs.Rows.{Values, SpellsRow}
 use Rattle.mu_grammar.specs.SimpleParts.{is_word, AnyName, GivenWord, read_word, read_name}
 use Rattle.mu_grammar.specs.Groups.{Optional}
 use Rattle.mu_text.proofs.Exact.{Exact, Exact-same, Exact-chain, Exact-pure}
-use Rattle.mu_text.proofs.Simple.{Any, Exact-mark, Exact-name, Exact-plain_name, Exact-word, is_own_word}
+use Rattle.mu_text.proofs.Simple.{Any as Anything, Exact-mark, Exact-name, Exact-plain_name, Exact-word, is_own_word}
 use Rattle.mu_text.proofs.Choice.{Passes, Fails}
 use Rattle.mu_text.proofs.Complete.{Follows}
 use Rattle.mu_text.proofs.Trees.{Exact-tree}
 use Rattle.mu_text.proofs.Claims.{NoClaim, Exact-claim}
-use Rattle.mu_text.proofs.Reasons.{NoReason, Exact-reason}
+use Rattle.mu_text.proofs.Reasons.{NoReason, reason_ends, Exact-reason}
+use Rattle.mu_text.proofs.Blocks.{NoBlock, block_ends, Exact-block}
 use Rattle.mu_text.proofs.Groups.{Exact-optional}
 use Rattle.mu_text.proofs.Declarations.{Exact-declaration}
 use Rattle.mu_text.proofs.Rows as rows
 use Rattle.mu_command.specs.declared.forms.Form.{Form}
-use Rattle.mu_command.specs.declared.forms.Form.TheVariants.{Theory, Constant, Axiom, Rule, Proof, Line, Cite, Status, ShowRule}
+use Rattle.mu_command.specs.declared.forms.Form.TheVariants.{Theory}
 use Rattle.mu_command.specs.Words.{read_words}
 use Rattle.mu_command.specs.Forms.{named, is_front, FormWords, read_form}
 use Rattle.mu_command.proofs.Words.{SomeWords, Exact-words}
 use Rattle.mu_command.proofs.FormTable.{begins_at_form, has_form, form_ends, to_form_words, from_form_words}
-use Rattle.mu_command.specs.Parts.{Part, name, plain, given, sign, declaration, before, tree, claim, reason, Value, IsBefore, SpellsPart, read_before, read_part}
-use Rattle.mu_command.specs.Grammar.{row, Spelled, Written, Spells, read_parts, read_command}
+use Rattle.mu_command.specs.declared.parts.Part.{Part}
+use Rattle.mu_command.specs.declared.parts.Part.TheVariants as part
+use Rattle.mu_command.specs.Parts.{Value, IsBefore, SpellsPart, keyword_text, read_before, read_part}
+use Rattle.mu_command.specs.Rows.{row}
+use Rattle.mu_command.specs.Grammar.{Spelled, Written, Spells, read_parts, read_command}
 
-pub Exact-form : Exact read_form FormWords Any
+pub Exact-form : Exact read_form FormWords Anything
 unfolding read_form
 Exact-form =
-    Exact-same (read_words named is_front []) (SomeWords named []) FormWords Any to_form_words from_form_words
+    Exact-same (read_words named is_front []) (SomeWords named []) FormWords Anything to_form_words from_form_words
     (Exact-words named is_front begins_at_form has_form form_ends [] (codes "theory", Theory, refl))
 
 -- whether the token is the word `before`
 abbrev is_before_word : Lexeme → Bool
 is_before_word = is_word (codes "before")
 
-exact_is_before : Exact (chain (read_word (codes "before")) (λ _ l. read_name l)) IsBefore Any
-exact_is_before = Exact-chain (read_word (codes "before")) (λ _ l. read_name l) (GivenWord (codes "before")) (λ _ l y. AnyName l y) Any Any (Exact-word (codes "before")) (λ _. Exact-name) (λ u b y rest h s. tt)
+exact_is_before : Exact (chain (read_word (codes "before")) (λ _ l. read_name l)) IsBefore Anything
+exact_is_before = Exact-chain (read_word (codes "before")) (λ _ l. read_name l) (GivenWord (codes "before")) (λ _ l y. AnyName l y) Anything Anything (Exact-word (codes "before")) (λ _. Exact-name) (λ u b y rest h s. tt)
 
 before_passes : (ts : List Lexeme) (x : List ℕ) → IsBefore ts x → Passes is_before_word ts
 before_passes ts x g =
     subst (Passes is_before_word) (sym (g.3 ∙ ap (λ l. l ++ g.2) g.4.1)) (is_own_word (codes "before") g.4.0 g.4.2)
 
 abbrev pub NoBefore : List Lexeme → Type 0
-NoBefore rest = Any rest × Fails is_before_word rest
+NoBefore rest = Anything rest × Fails is_before_word rest
 
 exact_before : Exact read_before (Optional IsBefore) NoBefore
 unfolding read_before
-exact_before = Exact-optional is_before_word (chain (read_word (codes "before")) (λ _ l. read_name l)) IsBefore Any exact_is_before before_passes
+exact_before = Exact-optional is_before_word (chain (read_word (codes "before")) (λ _ l. read_name l)) IsBefore Anything exact_is_before before_passes
 
 -- what may follow a part
 abbrev pub Stops : Part → List Lexeme → Type 0
-Stops before ts = NoBefore ts
-Stops tree ts = Follows ts
-Stops claim ts = NoClaim ts
-Stops reason ts = NoReason ts
-Stops _ ts = Any ts
+Stops part.Before ts = NoBefore ts
+Stops part.Tree ts = Follows ts
+Stops part.Claim ts = NoClaim ts
+Stops part.Reason ts = NoReason ts
+Stops part.Block ts = NoBlock ts
+Stops _ ts = Anything ts
 
-exact_part : (part : Part) → Exact (read_part part) (SpellsPart part) (Stops part)
-exact_part name = Exact-name
-exact_part plain = Exact-plain_name
-exact_part (given text) = Exact-word text
-exact_part (sign m) = Exact-mark m
-exact_part declaration = Exact-declaration
-exact_part before = exact_before
-exact_part tree = Exact-tree
-exact_part claim = Exact-claim
-exact_part reason = Exact-reason
+exact_part : (each : Part) → Exact (read_part each) (SpellsPart each) (Stops each)
+exact_part part.Name = Exact-name
+exact_part part.Plain = Exact-plain_name
+exact_part (part.Word keyword) = Exact-word (keyword_text keyword)
+exact_part (part.Sign m) = Exact-mark m
+exact_part part.Declaration = Exact-declaration
+exact_part part.Before = exact_before
+exact_part part.Tree = Exact-tree
+exact_part part.Claim = Exact-claim
+exact_part part.Reason = Exact-reason
+exact_part part.Block = Exact-block
 
--- a mark follows
-mark_follows : (S : List Lexeme → Type 0) (m : Mark) (parts : List Part) → ((rest : List Lexeme) → S (mark m ∷ rest)) → (ts : List Lexeme) (v : Values Value (sign m ∷ parts)) → SpellsRow Value SpellsPart (sign m ∷ parts) ts v → S ts
-mark_follows S m parts stops ts v g = subst S (sym (g.2 ∙ ap (λ l. l ++ g.1) g.3)) (stops g.1)
+-- a mark comes first
+abbrev begins_marked : List Part → Bool
+begins_marked (part.Sign m ∷ parts) = true
+begins_marked _ = false
+
+-- no part is left
+abbrev is_last : List Part → Bool
+is_last [] = true
+is_last (each ∷ parts) = false
+
+-- the part may stand before these
+abbrev goes_before : Part → List Part → Bool
+goes_before part.Before parts = begins_marked parts
+goes_before part.Tree parts = is_last parts
+goes_before part.Claim parts = is_last parts
+goes_before part.Reason parts = is_last parts
+goes_before part.Block parts = is_last parts
+goes_before _ parts = true
+
+-- each part may stand before those behind it
+abbrev pub are_in_order : List Part → Bool
+are_in_order [] = true
+are_in_order (each ∷ parts) = goes_before each parts && are_in_order parts
+
+Follow : Part → List Part → Type 0
+Follow each parts = (ts : List Lexeme) (v : Values Value parts) → SpellsRow Value SpellsPart parts ts v → Stops each ts
 
 -- nothing follows
-none_follows : (S : List Lexeme → Type 0) → S [] → (ts : List Lexeme) (v : Values Value []) → SpellsRow Value SpellsPart [] ts v → S ts
-none_follows S stops ts v g = subst S (sym g) stops
+none_follows : (each : Part) (parts : List Part) → Stops each [] → is_last parts ≡ true → Follow each parts
+unfolding Follow
+none_follows each [] stops last = λ ts v g. subst (Stops each) (sym g) stops
+none_follows each (next ∷ parts) stops last = cc
 
--- in each form what follows a part lets it stop there
-linked : (form : Form) → rows.Linked Value read_part SpellsPart Stops (row form)
-linked Theory = (λ ts v g. tt, tt)
-linked Constant = (λ ts v g. tt, (λ ts v g. tt, tt))
-linked Axiom = (λ ts v g. tt, (λ ts v g. tt, (λ ts v g. tt, (none_follows NoClaim (tt, tt), tt))))
-linked Rule = (λ ts v g. tt, (λ ts v g. tt, (λ ts v g. tt, (none_follows NoClaim (tt, tt), tt))))
-linked Proof = (λ ts v g. tt, (λ ts v g. tt, tt))
-linked Line = (
-  λ ts v g. tt,
-  (
-    λ ts v g. tt,
-    (
-      λ ts v g. tt,
-      (
-        λ ts v g. tt,
-        (
-          λ ts v g. tt,
-          (mark_follows NoBefore Colon (tree ∷ []) (λ rest. (tt, refl)), (λ ts v g. tt, (none_follows Follows tt, tt))),
-        ),
-      ),
-    ),
-  ),
-)
-linked Cite = (λ ts v g. tt, (λ ts v g. tt, (λ ts v g. tt, (λ ts v g. tt, (none_follows NoReason (((tt, tt), tt), ((tt, tt), tt)), tt)))))
-linked Status = (λ ts v g. tt, tt)
-linked ShowRule = (λ ts v g. tt, tt)
+unmarked : (m : Mark) → is_before_word (mark m) ≡ false
+unmarked And = refl
+unmarked _ = refl
+
+mark_follows : (parts : List Part) → begins_marked parts ≡ true → Follow part.Before parts
+unfolding Follow
+mark_follows [] marked = cc
+mark_follows (part.Sign m ∷ parts) marked = λ ts v g. subst NoBefore (sym (g.2 ∙ ap (λ l. l ++ g.1) g.3)) (tt, unmarked m)
+mark_follows (_ ∷ parts) marked = cc
+
+follow : (each : Part) (parts : List Part) → goes_before each parts ≡ true → Follow each parts
+unfolding Follow
+follow part.Before parts goes = mark_follows parts goes
+follow part.Tree parts goes = none_follows part.Tree parts tt goes
+follow part.Claim parts goes = none_follows part.Claim parts (tt, tt) goes
+follow part.Reason parts goes = none_follows part.Reason parts reason_ends goes
+follow part.Block parts goes = none_follows part.Block parts block_ends goes
+follow _ parts goes = λ ts v g. tt
+
+linked : (parts : List Part) → are_in_order parts ≡ true → rows.Linked Value read_part SpellsPart Stops parts
+unfolding Follow
+linked [] ordered = tt
+linked (each ∷ parts) ordered = let both = and_parts (goes_before each parts) (are_in_order parts) ordered in (follow each parts both.0, linked parts both.1)
+
+-- so are the parts of each form
+forms_in_order : (form : Form) → are_in_order (row form) ≡ true
+forms_in_order Theory = refl
+forms_in_order _ = refl
 
 abbrev pub SpellsParts : (form : Form) → List Lexeme → Spelled form → Type 0
 SpellsParts form ts v = SpellsRow Value SpellsPart (row form) ts v
 
 exact_parts : (form : Form) → Exact (read_parts form) (SpellsParts form) End
 unfolding read_parts
-exact_parts form = rows.Exact-row Value read_part SpellsPart Stops exact_part (row form) (linked form)
+exact_parts form = rows.Exact-row Value read_part SpellsPart Stops exact_part (row form) (linked (row form) (forms_in_order form))
 
 abbrev Behind : (form : Form) → List Lexeme → Written → Type 0
 Behind form = Then (SpellsParts form) (λ v. Nothing (form, v))
@@ -135,4 +169,4 @@ pub Exact-command : Exact read_command Spells End
 unfolding read_command
 Exact-command =
     Exact-same read_command (Then FormWords Behind) Spells End to_written from_written
-    (Exact-chain read_form (λ form. chain (read_parts form) (λ v. given_back (form, v))) FormWords Behind Any End Exact-form exact_behind (λ form b w rest g e. tt))
+    (Exact-chain read_form (λ form. chain (read_parts form) (λ v. given_back (form, v))) FormWords Behind Anything End Exact-form exact_behind (λ form b w rest g e. tt))

@@ -6,7 +6,10 @@ use Rattle.std.specs.Str.{bytes_eq}
 use Rattle.std.proofs.lemmas.List.Splits.{join_with_byte-slice_split}
 use Rattle.std.proofs.lemmas.Slice.Eq.{bytes_eq-Decides}
 use Rattle.std.proofs.lemmas.Bool.Decides.{Decides-eqb}
-use Rattle.mu_tables.specs.Words.{number_of, some_begins, text_of}
+use Rattle.mu_tables.specs.Words.{number_of, rows_of, some_begins, text_of, word_of}
+use Rattle.mu_tables.specs.declared.words.Row.{Row}
+use Rattle.std.specs.Bool.{nat_eq}
+use Rattle.std.specs.Option.{option_map_or}
 use Rattle.mu_tables.specs.Tables.{the_forms}
 use Rattle.mu_tables.proofs.Fronts.{found_holds, begins_where_found, found_where_begins}
 use Rattle.mu_grammar.specs.declared.symbol.Word.TheVariants.{Plain}
@@ -105,3 +108,13 @@ from_form_words ts form e =
       are = e ∙ ap (map (word Plain)) parts.2;
       text = ap (λ texts. named (join_with_byte 32 texts)) (sym parts.2) ∙ named_number (join_with_byte 32 (words form)) form (have_words form);
     }
+
+-- the text of a number as the code finds it
+pub found_text : (n : ℕ) (rows : List Row) → option_map_or (λ text. text.now) (word_of n rows) [] ≡ text_of n (rows_of rows)
+found_text n [] = refl
+found_text n (row ∷ rows) = at (nat_eq row.number n) (found_text n rows)
+  where
+    at : (same : Bool) → option_map_or (λ text. text.now) (word_of n rows) [] ≡ text_of n (rows_of rows)
+        → option_map_or (λ text. text.now) (if same then Some row.text else word_of n rows) [] ≡ (if same then row.text.now else text_of n (rows_of rows))
+    at true later = refl
+    at false later = later

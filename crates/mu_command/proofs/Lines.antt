@@ -1,9 +1,10 @@
 -- What reading a line says of it.
 use Rattle.std.proofs.Common.{◌≡◌, ℕ, ◌-◌, Bool, true, false, List, [], ◌∷◌, length, refl, ap, sym, ◌∙◌, arith}
-use Rattle.std.specs.Prelude.{if◌then◌else◌, Option, Some, None, Ok}
+use Rattle.std.specs.Prelude.{if◌then◌else◌, Option, Some, None, Ok, Result, Err, IfOk}
 use Rattle.std.proofs.lemmas.List.{length-map}
 use Rattle.mu_tree.specs.declared.refusal.LimitWord.{LimitWord}
 use Rattle.mu_tree.specs.declared.refusal.LimitWord.TheVariants as limit
+use Rattle.mu_tree.specs.declared.memory.NoMemory.{NoMemory}
 use Rattle.mu_grammar.specs.Tokens.{tokens}
 use Rattle.mu_grammar.specs.Lexemes.{Lexeme, item, items_of}
 use Rattle.mu_grammar.specs.Parts.{Out, found, stopped}
@@ -84,3 +85,9 @@ read_value line c e rest answer read none is =
         let within = none_past (has_short_tokens line) (excess_of (trees_of_command read.value)) i in
         ap (λ x. within_limits (or_text None (is_long x)) x) (command_meant read.value (items_of line) c spells (line_kept line within.0) read.stands.0 within.1)
     by_limit (Some word) i = refl
+
+-- the same of an answer that may be want of memory
+pub read_within : (line : List ℕ) (c : Command) (e : Excess) (rest : List Lexeme) (answer : Result Reading NoMemory) → GivesCommand no_excess e (items_of line) (Ok c) rest → length rest ≡ 0
+    → IfOk answer (λ reading. reading ≡ within_limits (or_text (first_limit (has_short_tokens line) e) (is_long c)) c) → IfOk answer (λ reading. reading ≡ reading_of line)
+read_within line c e rest (Ok reading) read none is = read_value line c e rest reading read none is
+read_within line c e rest (Err fault) read none is = tt

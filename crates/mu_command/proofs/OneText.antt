@@ -14,7 +14,7 @@ use Rattle.mu_text.proofs.Exact.{Exact-before}
 use Rattle.mu_text.proofs.Whole.{only_value}
 use Rattle.mu_text.proofs.Trees.{Exact-tree}
 use Rattle.mu_text.proofs.Claims.{NoClaim, Exact-claim}
-use Rattle.mu_text.proofs.Reasons.{NoReason, Exact-reason}
+use Rattle.mu_text.proofs.Reasons.{NoReason, reason_ends, Exact-reason}
 use Rattle.mu_print.specs.Canonical.{tree_text}
 use Rattle.mu_print.specs.Texts.{claim_text, reason_text}
 use Rattle.mu_print.specs.Laws.{TreesReadBack, ClaimsReadBack, ReasonsReadBack}
@@ -41,5 +41,5 @@ unfolding TreesReadBack ClaimsReadBack ReasonsReadBack
 texts_tell_apart = record {
   trees = apart OneTree one_tree tree_of tree_text (only_value read_tree OneTree (Exact-before read_tree OneTree Follows End (λ rest e. subst Follows (sym e) tt) Exact-tree)) trees_read_back;
   claims = apart IsClaim trees_in_claim claim_of claim_text (only_value read_claim IsClaim (Exact-before read_claim IsClaim NoClaim End (λ rest e. subst NoClaim (sym e) (tt, tt)) Exact-claim)) claims_read_back;
-  reasons = apart IsReason trees_in_reason why_of reason_text (only_value read_reason IsReason (Exact-before read_reason IsReason NoReason End (λ rest e. subst NoReason (sym e) (((tt, tt), tt), ((tt, tt), tt))) Exact-reason)) reasons_read_back;
+  reasons = apart IsReason trees_in_reason why_of reason_text (only_value read_reason IsReason (Exact-before read_reason IsReason NoReason End (λ rest e. subst NoReason (sym e) reason_ends) Exact-reason)) reasons_read_back;
 }

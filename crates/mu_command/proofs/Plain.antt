@@ -24,13 +24,16 @@ use Rattle.mu_text.proofs.Facts.{IsTokenOf, tokens_hold}
 use Rattle.mu_text.proofs.Simple.{from_bytes}
 use Rattle.mu_command.specs.declared.command.Command.{Command}
 use Rattle.mu_command.specs.declared.forms.Form.{Form}
-use Rattle.mu_command.specs.declared.forms.Form.TheVariants.{Theory, Constant, Axiom, Rule, Proof, Line, Cite, Status, ShowRule}
 use Rattle.mu_command.specs.declared.readings.Reading.TheVariants as reading
-use Rattle.mu_command.specs.Parts.{Part, name, plain, given, sign, declaration, before, tree, claim, reason, Value, SpellsPart}
-use Rattle.mu_command.specs.Grammar.{row, Spelled, command_of}
+use Rattle.mu_command.specs.declared.parts.Part.{Part}
+use Rattle.mu_command.specs.declared.parts.Part.TheVariants as part
+use Rattle.mu_command.specs.Parts.{Value, SpellsPart}
+use Rattle.mu_command.specs.Rows.{row, fields_of, said_by}
+use Rattle.mu_command.specs.Grammar.{Spelled, command_of, make}
 use Rattle.mu_command.specs.Readings.{ReadingIsExact, Says, reading_of}
-use Rattle.mu_command.specs.Plain.{IsPlain, HasPlainNames}
+use Rattle.mu_command.specs.Plain.{ArePlain, IsPlain, HasPlainNames}
 use Rattle.mu_command.proofs.Lines.{reading_is_exact}
+use Rattle.mu_command.proofs.Meant.{fields_made, form_made}
 
 one_segment : (parts : List (List ℕ)) → length parts ≡ 1 → list_all is_segment parts ≡ true → IsPlain (join_with_byte 46 parts)
 one_segment [] size all = absurd (omega arith)
@@ -95,45 +98,39 @@ tokens_plain line (token ∷ ts) is = (token_plain line token is.0, tokens_plain
 plain_spelled : (ts : List Lexeme) (text : List ℕ) → AllByRecursion IsPlainItem ts → PlainName ts text → IsPlain text
 plain_spelled ts text are g = let first = subst (AllByRecursion IsPlainItem) g.1 are in first.0 text g.2
 
--- the value of a part that is a plain name is one
-abbrev IsPlainPart : (part : Part) → Value part → Type 0
-IsPlainPart plain v = IsPlain v
-IsPlainPart declaration v = IsPlain v.name
+-- what the part says names something with one segment, where it is a plain name or a declaration
+abbrev IsPlainPart : (each : Part) → Value each → Type 0
+IsPlainPart part.Plain v = IsPlain v
+IsPlainPart part.Declaration v = IsPlain v.name
 IsPlainPart _ v = Unit {0}
 
--- so are those of a row
+-- so do those of a row
 abbrev IsPlainRow : (parts : List Part) → Values Value parts → Type 0
 IsPlainRow [] v = Unit {0}
-IsPlainRow (part ∷ parts) v = IsPlainPart part v.0 × IsPlainRow parts v.1
+IsPlainRow (each ∷ parts) v = IsPlainPart each v.0 × IsPlainRow parts v.1
 
-part_plain : (part : Part) (ts : List Lexeme) (v : Value part) → AllByRecursion IsPlainItem ts → SpellsPart part ts v → IsPlainPart part v
-part_plain plain ts v are g = plain_spelled ts v are g
-part_plain name ts v are g = tt
-part_plain (given text) ts v are g = tt
-part_plain (sign m) ts v are g = tt
-part_plain declaration ts v are g =
+part_plain : (each : Part) (ts : List Lexeme) (v : Value each) → AllByRecursion IsPlainItem ts → SpellsPart each ts v → IsPlainPart each v
+part_plain part.Plain ts v are g = plain_spelled ts v are g
+part_plain part.Declaration ts v are g =
     let here = all_parts IsPlainItem g.0 (g.1 ++ (mark Arrow ∷ g.2)) (subst (AllByRecursion IsPlainItem) g.3 are) in plain_spelled g.0 v.name here.0 g.4
-part_plain before ts v are g = tt
-part_plain tree ts v are g = tt
-part_plain claim ts v are g = tt
-part_plain reason ts v are g = tt
+part_plain _ ts v are g = tt
 
 row_plain : (parts : List Part) (ts : List Lexeme) (v : Values Value parts) → AllByRecursion IsPlainItem ts → SpellsRow Value SpellsPart parts ts v → IsPlainRow parts v
 row_plain [] ts v are g = tt
-row_plain (part ∷ parts) ts v are g =
+row_plain (each ∷ parts) ts v are g =
     let here = all_parts IsPlainItem g.0 g.1 (subst (AllByRecursion IsPlainItem) g.2 are) in
-    (part_plain part g.0 v.0 here.0 g.3, row_plain parts g.1 v.1 here.1 g.4)
+    (part_plain each g.0 v.0 here.0 g.3, row_plain parts g.1 v.1 here.1 g.4)
+
+said_plain : (parts : List Part) (v : Values Value parts) → IsPlainRow parts v → ArePlain parts (said_by parts v)
+said_plain [] v are = tt
+said_plain (part.Plain ∷ parts) v are = (are.0, said_plain parts v.1 are.1)
+said_plain (part.Declaration ∷ parts) v are = (are.0, said_plain parts v.1 are.1)
+said_plain (_ ∷ parts) v are = said_plain parts v.1 are.1
 
 command_plain : (form : Form) (v : Spelled form) → IsPlainRow (row form) v → HasPlainNames (command_of (form, v))
-command_plain Theory v are = are.0
-command_plain Constant v are = (are.0, are.1.0)
-command_plain Axiom v are = (are.0, are.1.0)
-command_plain Rule v are = (are.0, are.1.0)
-command_plain Proof v are = are.1.0
-command_plain Line v are = (are.1.0, are.1.1.0)
-command_plain Cite v are = (are.1.0, are.1.1.0)
-command_plain Status v are = tt
-command_plain ShowRule v are = tt
+command_plain form v are =
+    let parts = row form in
+    subst (λ (f : Form). ArePlain (row f) (fields_of (make form v))) (sym (form_made form v)) (subst (ArePlain (row form)) (sym (fields_made form v)) (said_plain (row form) v are))
 
 says_plain : (line : List ℕ) (c : Command) → Says line (reading.Command c) → HasPlainNames c
 says_plain line c (w, spells, none, same) =

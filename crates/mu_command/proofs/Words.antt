@@ -8,7 +8,7 @@ use Rattle.mu_grammar.specs.declared.symbol.Word.TheVariants.{Plain, Dotted, Tru
 use Rattle.mu_grammar.specs.Lexemes.{Lexeme, word, mark}
 use Rattle.mu_grammar.specs.Parts.{Out, found, stopped, taken, Begins}
 use Rattle.mu_text.proofs.Exact.{Exact, Answered}
-use Rattle.mu_text.proofs.Simple.{Any}
+use Rattle.mu_text.proofs.Simple.{Any as Anything}
 use Rattle.mu_command.specs.Words.{read_words}
 use Rattle.mu_command.proofs.Bare.{AreBare, cut}
 
@@ -146,7 +146,7 @@ module _ {A : Type 0} (lookup : List ℕ → Option A) (is_front : List ℕ → 
   answers [] front has = ([], refl, begin front has, λ T r other i. cc)
   answers (T ∷ rest) front has = at_token T front rest has (λ f h. answers rest f h)
 
-  pub Exact-words : (front : List ℕ) → HasText lookup front → Exact (read_words lookup is_front front) (SomeWords lookup front) Any
+  pub Exact-words : (front : List ℕ) → HasText lookup front → Exact (read_words lookup is_front front) (SomeWords lookup front) Anything
   unfolding read
   Exact-words front has =
       let first = begin front has in

@@ -8,23 +8,25 @@ use Rattle.mu_grammar.specs.Lexemes.{Lexeme, word}
 use Rattle.mu_grammar.specs.Parts.{Out}
 use Rattle.mu_command.specs.Words.{read_words}
 use Rattle.mu_command.specs.declared.forms.Form.{Form}
-use Rattle.mu_command.specs.declared.forms.Form.TheVariants.{Theory, Constant, Axiom, Rule, Proof, Line, Cite, Status, ShowRule}
+use Rattle.mu_command.specs.declared.forms.Form.TheVariants.{Theory, Const, Axiom, Rule, Proof, Line, Box, Cite, Status, ShowRule, ShowProof}
 
 -- the number of the form in the table of words
 abbrev pub number : Form → ℕ
 number Theory = 1
-number Constant = 2
+number Const = 2
 number Axiom = 3
 number Rule = 4
 number Proof = 5
 number Line = 6
-number Cite = 7
-number Status = 8
-number ShowRule = 9
+number Box = 7
+number Cite = 8
+number Status = 9
+number ShowRule = 10
+number ShowProof = 11
 
 -- all forms
 abbrev pub forms : List Form
-forms = Theory ∷ Constant ∷ Axiom ∷ Rule ∷ Proof ∷ Line ∷ Cite ∷ Status ∷ ShowRule ∷ []
+forms = Theory ∷ Const ∷ Axiom ∷ Rule ∷ Proof ∷ Line ∷ Box ∷ Cite ∷ Status ∷ ShowRule ∷ ShowProof ∷ []
 
 -- the form of a number
 abbrev pub numbered : ℕ → Option Form

@@ -1,43 +1,24 @@
 -- Which tokens are those of a command, and which command that is.
-use Rattle.std.specs.Prelude.{◌≡◌, List, [], ◌∷◌, ◌++◌, Result, codes}
+use Rattle.std.specs.Prelude.{◌≡◌, List, ◌++◌, Option, Result}
 use Rattle.mu_grammar.specs.declared.excess.Excess.{Excess}
 use Rattle.mu_grammar.specs.declared.fault.PartFault.{PartFault}
-use Rattle.mu_grammar.specs.declared.symbol.Mark.TheVariants.{Colon}
 use Rattle.mu_grammar.specs.Lexemes.{Lexeme}
 use Rattle.mu_grammar.specs.Parts.{Out, found, ◌>>=◌, Gives}
-use Rattle.mu_grammar.specs.Rows.{Values, SpellsRow, read_row, Makes}
-use Rattle.mu_grammar.specs.Writings.{Writing}
+use Rattle.mu_grammar.specs.Rows.{Values, SpellsRow, read_row}
+use Rattle.mu_grammar.specs.Writings.{Writing, tree_of}
+use Rattle.mu_grammar.specs.Blocks.{block_of}
+use Rattle.mu_grammar.specs.Claims.{claim_of}
+use Rattle.mu_grammar.specs.Reasons.{why_of}
 use Rattle.mu_grammar.specs.Excesses.{Raising}
 use Rattle.mu_command.specs.declared.command.Command.{Command}
 use Rattle.mu_command.specs.declared.command.Command.TheVariants as command
 use Rattle.mu_command.specs.declared.forms.Form.{Form}
-use Rattle.mu_command.specs.declared.forms.Form.TheVariants.{Theory, Constant, Axiom, Rule, Proof, Line, Cite, Status, ShowRule}
+use Rattle.mu_command.specs.declared.forms.Form.TheVariants.{Theory, Const, Axiom, Rule, Proof, Line, Box, Cite, Status, ShowRule, ShowProof}
+use Rattle.mu_command.specs.declared.parts.Part.{Part}
+use Rattle.mu_command.specs.declared.parts.Field.{Field}
 use Rattle.mu_command.specs.Forms.{FormWords, read_form}
-use Rattle.mu_command.specs.Parts.{Part, name, plain, given, sign, declaration, before, tree, claim, reason, Value, SpellsPart, read_part, Meant, meant_part, trees_in, StandsPart}
-
--- the parts that follow the words of a form
-abbrev pub row : Form → List Part
-row Theory = plain ∷ []
-row Constant = plain ∷ declaration ∷ []
-row Axiom = plain ∷ plain ∷ sign Colon ∷ claim ∷ []
-row Rule = plain ∷ plain ∷ sign Colon ∷ claim ∷ []
-row Proof = name ∷ plain ∷ []
-row Line = name ∷ plain ∷ plain ∷ given (codes "in") ∷ name ∷ before ∷ sign Colon ∷ tree ∷ []
-row Cite = name ∷ plain ∷ plain ∷ sign Colon ∷ reason ∷ []
-row Status = name ∷ []
-row ShowRule = name ∷ []
-
--- the command of a form, by what is meant by its parts
-abbrev pub make : (form : Form) → Values Meant (row form) → Command
-make Theory v = command.Theory v.0
-make Constant v = command.Constant v.0 v.1.0.name v.1.0.shape v.1.0.result
-make Axiom v = command.Axiom v.0 v.1.0 v.1.1.1.0
-make Rule v = command.Rule v.0 v.1.0 v.1.1.1.0
-make Proof v = command.Proof v.0 v.1.0
-make Line v = command.Line v.0 v.1.0 v.1.1.0 v.1.1.1.1.0 v.1.1.1.1.1.0 v.1.1.1.1.1.1.1.0
-make Cite v = command.Cite v.0 v.1.0 v.1.1.0 v.1.1.1.1.0
-make Status v = command.Status v.0
-make ShowRule v = command.ShowRule v.0
+use Rattle.mu_command.specs.Parts.{Value, SpellsPart, read_part, trees_in, StandsPart}
+use Rattle.mu_command.specs.Rows.{row, form_of, fields_of, trees_of, StandsRow}
 
 -- the values of the parts of a form, as they are spelled
 abbrev pub Spelled : Form → Type 0
@@ -51,19 +32,23 @@ Written = (form : Form) × Spelled form
 abbrev pub Spells : List Lexeme → Written → Type 0
 Spells ts w = (a b : List Lexeme) × (ts ≡ a ++ b) × FormWords a w.0 × SpellsRow Value SpellsPart (row w.0) b w.1
 
--- what is meant by the values of some parts
-abbrev pub meant : (parts : List Part) → Values Value parts → Values Meant parts
-meant [] v = tt
-meant (part ∷ parts) v = (meant_part part v.0, meant parts v.1)
+-- the command of a form, by what its parts are spelled for
+abbrev pub make : (form : Form) → Spelled form → Command
+make Theory v = command.Theory v.0
+make Const v = command.Const v.0 v.1.0.name v.1.0.shape v.1.0.result
+make Axiom v = command.Axiom v.0 v.1.0 (claim_of v.1.1.1.0)
+make Rule v = command.Rule v.0 v.1.0 (claim_of v.1.1.1.0)
+make Proof v = command.Proof v.0 v.1.0
+make Line v = command.Line v.0 v.1.0 v.1.1.0 v.1.1.1.1.0 v.1.1.1.1.1.0 (tree_of v.1.1.1.1.1.1.1.0)
+make Box v = command.Box v.0 v.1.0 v.1.1.0 v.1.1.1.1.0 v.1.1.1.1.1.0 (block_of v.1.1.1.1.1.1.1.0).0 (block_of v.1.1.1.1.1.1.1.0).1
+make Cite v = command.Cite v.0 v.1.0 v.1.1.0 (why_of v.1.1.1.1.0)
+make Status v = command.Status v.0
+make ShowRule v = command.ShowRule v.0
+make ShowProof v = command.ShowProof v.0 v.1.0
 
 -- the command that is written
 abbrev pub command_of : Written → Command
-command_of w = make w.0 (meant (row w.0) w.1)
-
--- the trees in the values of some parts
-abbrev pub trees_of : (parts : List Part) → Values Value parts → List Writing
-trees_of [] v = []
-trees_of (part ∷ parts) v = trees_in part v.0 ++ trees_of parts v.1
+command_of w = make w.0 w.1
 
 -- the trees of a written command
 abbrev pub trees_of_command : Written → List Writing
@@ -77,18 +62,18 @@ read_parts form ts = read_row Value read_part (row form) ts
 unfoldable pub read_command : List Lexeme → Out Written
 read_command ts = read_form ts >>= (λ form behind. read_parts form behind >>= (λ v rest. found (form, v) rest))
 
--- the command is made of values that stand for the spelled parts of a form
-abbrev pub StandsForm : (form : Form) → Spelled form → Command → Type 0
-StandsForm form v c = Makes Value Meant StandsPart (row form) (make form) v c
-
--- the command stands for the written one
+-- the command stands for the written one: it has its form, and its fields stand for what is spelled
 abbrev pub StandsCommand : Written → Command → Type 0
-StandsCommand w c = StandsForm w.0 w.1 c
+StandsCommand w c = (form_of c ≡ w.0) × StandsRow (row w.0) w.1 (fields_of c)
 
--- what a call answers stands for what the parts of a form give, and the limits that its trees pass were raised
-abbrev pub GivesForm : (form : Form) → Excess → Excess → List Lexeme → Result Command PartFault → List Lexeme → Type 0
-GivesForm form start now ts answer rest = Gives (Raising (StandsForm form) (trees_of (row form)) start now) (read_parts form ts) answer rest
+-- what a call answers stands for what the part gives, and the limits that its trees pass were raised
+abbrev pub GivesPart : (each : Part) → Excess → Excess → List Lexeme → Result (Option Field) PartFault → List Lexeme → Type 0
+GivesPart each start now ts answer rest = Gives (Raising (StandsPart each) (trees_in each) start now) (read_part each ts) answer rest
 
--- what a call answers stands for what the command gives, and the limits that its trees pass were raised
+-- the same of a row of parts
+abbrev pub GivesRow : (parts : List Part) → Excess → Excess → List Lexeme → Result (List Field) PartFault → List Lexeme → Type 0
+GivesRow parts start now ts answer rest = Gives (Raising (StandsRow parts) (trees_of parts) start now) (read_row Value read_part parts ts) answer rest
+
+-- and of a command
 abbrev pub GivesCommand : Excess → Excess → List Lexeme → Result Command PartFault → List Lexeme → Type 0
 GivesCommand start now ts answer rest = Gives (Raising StandsCommand trees_of_command start now) (read_command ts) answer rest

@@ -1,8 +1,11 @@
 pub mod Canonical
 pub mod Forms
 pub mod Grammar
+pub mod Making
 pub mod OneText
 pub mod Parts
 pub mod Plain
 pub mod Readings
+pub mod Rows
+pub mod Shown
 pub mod Words

@@ -1,11 +1,13 @@
-ghost use Rattle.std.specs.Prelude.{◌≡◌, ◌++◌, codes, IfOk, OnOk};
-ghost use Rattle.mu_print.specs.Canonical.{tree_text};
-ghost use Rattle.mu_print.specs.Texts.{claim_text, reason_text};
-ghost use Rattle.mu_command.specs.Canonical.{before_text, command_text};
+ghost use Rattle.std.specs.Prelude.{◌≡◌, ◌++◌, map, IfOk, OnOk};
+ghost use Rattle.mu_command.specs.Canonical.{before_text, command_text, field_text, form_text, row_text, spaced};
 ghost use Rattle.mu_command.specs.OneText.{TextsTellApart};
+ghost use Rattle.mu_command.specs.Shown.{shown_as};
 
 use crate::command::Command;
-use mu_tree::{Bytes, Claim, Name, NoMemory, Tree, Why};
+use crate::forms::{Form, words};
+use crate::parts::{Part, Shown};
+use crate::rows::{keyword_bytes, row};
+use mu_tree::{Bytes, Name, NoMemory};
 use std::alloc::{AllocError, Global};
 
 /// The canonical text of a command, without the end of a line. Of its parts, no two values have one text.
@@ -13,7 +15,7 @@ use std::alloc::{AllocError, Global};
 /// # Errors
 ///
 /// `NoMemory`.
-#[tactic(auto, using(crate::proofs::OneText::texts_tell_apart), unfolding(crate::specs::Canonical::command_text))]
+#[tactic(auto, using(crate::proofs::OneText::texts_tell_apart))]
 pub fn print(alloc: Global, command: &Command) -> Result<Bytes, NoMemory>
     ensures value { IfOk result (λ text. text ≡ command_text command.now) }
     ensures apart { TextsTellApart }
@@ -24,116 +26,140 @@ pub fn print(alloc: Global, command: &Command) -> Result<Bytes, NoMemory>
 }
 
 /// Adds the canonical text of a command.
-#[tactic(auto, using(std::proofs::Common::append_assoc), unfolding(crate::specs::Canonical::command_text))]
+#[tactic(auto, unfolding(crate::specs::Canonical::command_text))]
 fn add_command(out: &mut Vec<u8>, command: &Command) -> Result<(), AllocError>
     ensures { OnOk result (out.new.items ≡ out.old.items ++ command_text command.now) }
 {
     match command {
-        Command::Theory { unit } => add_words(out, b"theory ", unit),
-        Command::Constant {
-            unit,
-            name,
-            shape,
-            result,
-        } => {
-            add_words(out, b"const ", unit)?;
-            out.push(b' ')?;
-            mu_print::declaration(out, name, shape, *result)
+        Command::Theory(u) => add_form(out, Form::Theory, &[Shown::Name(u)]),
+        Command::Const(u, c, shape, result) => add_form(
+            out,
+            Form::Const,
+            &[Shown::Name(u), Shown::Declaration(c, shape, *result)],
+        ),
+        Command::Axiom(u, r, claim) => add_form(
+            out,
+            Form::Axiom,
+            &[Shown::Name(u), Shown::Name(r), Shown::Claim(claim)],
+        ),
+        Command::Rule(u, r, claim) => add_form(
+            out,
+            Form::Rule,
+            &[Shown::Name(u), Shown::Name(r), Shown::Claim(claim)],
+        ),
+        Command::Proof(r, p) => add_form(out, Form::Proof, &[Shown::Name(r), Shown::Name(p)]),
+        Command::Line(r, p, l, b, x, tree) => add_form(
+            out,
+            Form::Line,
+            &[
+                Shown::Name(r),
+                Shown::Name(p),
+                Shown::Name(l),
+                Shown::Name(b),
+                Shown::Before(x),
+                Shown::Tree(tree),
+            ],
+        ),
+        Command::Box(r, p, l, b, x, vars, assumptions) => add_form(
+            out,
+            Form::Box,
+            &[
+                Shown::Name(r),
+                Shown::Name(p),
+                Shown::Name(l),
+                Shown::Name(b),
+                Shown::Before(x),
+                Shown::Block(vars, assumptions),
+            ],
+        ),
+        Command::Cite(r, p, l, why) => add_form(
+            out,
+            Form::Cite,
+            &[Shown::Name(r), Shown::Name(p), Shown::Name(l), Shown::Reason(why)],
+        ),
+        Command::Status(r) => add_form(out, Form::Status, &[Shown::Name(r)]),
+        Command::ShowRule(r) => add_form(out, Form::ShowRule, &[Shown::Name(r)]),
+        Command::ShowProof(r, p) => {
+            add_form(out, Form::ShowProof, &[Shown::Name(r), Shown::Name(p)])
         }
-        Command::Axiom { unit, rule, claim } => add_stated(out, b"axiom ", unit, rule, claim),
-        Command::Rule { unit, rule, claim } => add_stated(out, b"rule ", unit, rule, claim),
-        Command::Proof { rule, proof } => {
-            add_words(out, b"proof ", rule)?;
-            add_words(out, b" ", proof)
-        }
-        Command::Line {
-            rule,
-            proof,
-            label,
-            block,
-            before,
-            tree,
-        } => {
-            add_item(out, b"line ", rule, proof, label)?;
-            add_place(out, block, before)?;
-            add_tree(out, tree)
-        }
-        Command::Cite {
-            rule,
-            proof,
-            label,
-            why,
-        } => {
-            add_item(out, b"cite ", rule, proof, label)?;
-            add_reason(out, why)
-        }
-        Command::Status { rule } => add_words(out, b"status ", rule),
-        Command::ShowRule { rule } => add_words(out, b"show rule ", rule),
     }
 }
 
-/// Adds bytes, and a name behind them.
-fn add_words(out: &mut Vec<u8>, words: &[u8], name: &Name) -> Result<(), AllocError>
-    ensures { OnOk result (out.new.items ≡ out.old.items ++ (words.now ++ name.now)) }
+/// Adds the words of a form, and its parts.
+#[tactic(auto, using(std::proofs::Common::append_assoc))]
+fn add_form(out: &mut Vec<u8>, form: Form, fields: &[Shown]) -> Result<(), AllocError>
+    ensures { OnOk result (out.new.items ≡ out.old.items ++ form_text form (map shown_as fields.now)) }
 {
-    out.extend_from_slice(words)?;
-    out.extend_from_slice(name.bytes())
+    out.extend_from_slice(words(form))?;
+    add_row(out, row(form), fields)
 }
 
-/// Adds what states a rule.
-fn add_stated(
-    out: &mut Vec<u8>,
-    words: &[u8],
-    unit: &Name,
-    rule: &Name,
-    claim: &Claim,
-) -> Result<(), AllocError>
-    ensures { OnOk result (out.new.items ≡ out.old.items ++ (words.now ++ (unit.now ++ (codes " " ++ (rule.now ++ (codes " : " ++ claim_text claim.now)))))) }
+/// Adds some parts, each behind a blank.
+#[tactic(auto, using(std::proofs::Common::append_assoc), unfolding(crate::specs::Canonical::row_text))]
+fn add_row(out: &mut Vec<u8>, row: &[Part], fields: &[Shown]) -> Result<(), AllocError>
+    ensures { OnOk result (out.new.items ≡ out.old.items ++ row_text row.now (map shown_as fields.now)) }
 {
-    add_words(out, words, unit)?;
-    add_words(out, b" ", rule)?;
-    out.extend_from_slice(b" : ")?;
-    mu_print::claim(out, claim)
+    match (row, fields) {
+        ([], _) => Ok(()),
+        ([Part::Word(keyword), rest @ ..], _) => {
+            add_spaced(out, keyword_bytes(*keyword))?;
+            add_row(out, rest, fields)
+        }
+        ([Part::Sign(mark), rest @ ..], _) => {
+            add_spaced(out, mu_print::mark_text(*mark))?;
+            add_row(out, rest, fields)
+        }
+        (_, []) => Ok(()),
+        ([_, rest @ ..], [first, others @ ..]) => {
+            add_field(out, *first)?;
+            add_row(out, rest, others)
+        }
+    }
 }
 
-/// Adds what names an item of a proof.
-fn add_item(
-    out: &mut Vec<u8>,
-    words: &[u8],
-    rule: &Name,
-    proof: &Name,
-    label: &Name,
-) -> Result<(), AllocError>
-    ensures { OnOk result (out.new.items ≡ out.old.items ++ (words.now ++ (rule.now ++ (codes " " ++ (proof.now ++ (codes " " ++ label.now)))))) }
+/// Adds a blank, and a text.
+#[tactic(auto, using(std::proofs::Common::append_assoc))]
+fn add_spaced(out: &mut Vec<u8>, text: &[u8]) -> Result<(), AllocError>
+    ensures { OnOk result (out.new.items ≡ out.old.items ++ spaced text.now) }
 {
-    add_words(out, words, rule)?;
-    add_words(out, b" ", proof)?;
-    add_words(out, b" ", label)
+    out.extend_from_slice(b" ")?;
+    out.extend_from_slice(text)
 }
 
-/// Adds the block that an item is put into, and the item before which it is put.
-fn add_place(out: &mut Vec<u8>, block: &Name, before: &Option<Name>) -> Result<(), AllocError>
-    ensures { OnOk result (out.new.items ≡ out.old.items ++ (codes " in " ++ (block.now ++ before_text before.now))) }
+/// Adds what a part says, behind a blank.
+#[tactic(auto, using(std::proofs::Common::append_assoc), unfolding(crate::specs::Canonical::field_text))]
+fn add_field(out: &mut Vec<u8>, field: Shown) -> Result<(), AllocError>
+    ensures { OnOk result (out.new.items ≡ out.old.items ++ field_text (shown_as field.entry)) }
 {
-    add_words(out, b" in ", block)?;
+    if let Shown::Before(item) = field {
+        return add_before(out, item);
+    }
+    out.push(b' ')?;
+    match field {
+        Shown::Name(name) => out.extend_from_slice(name.bytes()),
+        Shown::Declaration(name, shape, result) => {
+            mu_print::declaration(out, name, shape, result)
+        }
+        Shown::Before(_) => Ok(()),
+        Shown::Tree(tree) => mu_print::tree(out, tree),
+        Shown::Claim(claim) => mu_print::claim(out, claim),
+        Shown::Reason(why) => mu_print::reason(out, why),
+        Shown::Block(vars, assumptions) => {
+            mu_print::block(out, vars.items(), assumptions.as_slice())
+        }
+    }
+}
+
+/// Adds the item before which another is put, where there is one.
+#[tactic(auto, using(std::proofs::Common::append_assoc))]
+fn add_before(out: &mut Vec<u8>, before: &Option<Name>) -> Result<(), AllocError>
+    ensures { OnOk result (out.new.items ≡ out.old.items ++ before_text before.now) }
+{
     match before {
-        Some(item) => add_words(out, b" before ", item),
+        Some(item) => {
+            out.extend_from_slice(b" before ")?;
+            out.extend_from_slice(item.bytes())
+        }
         None => Ok(()),
     }
-}
-
-/// Adds a tree behind a colon.
-fn add_tree(out: &mut Vec<u8>, tree: &Tree) -> Result<(), AllocError>
-    ensures { OnOk result (out.new.items ≡ out.old.items ++ (codes " : " ++ tree_text tree.now)) }
-{
-    out.extend_from_slice(b" : ")?;
-    mu_print::tree(out, tree)
-}
-
-/// Adds what a line holds by behind a colon.
-fn add_reason(out: &mut Vec<u8>, why: &Why) -> Result<(), AllocError>
-    ensures { OnOk result (out.new.items ≡ out.old.items ++ (codes " : " ++ reason_text why.now)) }
-{
-    out.extend_from_slice(b" : ")?;
-    mu_print::reason(out, why)
 }

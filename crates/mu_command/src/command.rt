@@ -1,60 +1,28 @@
-use mu_tree::{Claim, Kind, Name, Shape, Tree, Why};
+use mu_tree::{Claim, Kind, Name, Shape, Tree, Trees, TypedVars, Why};
 
-/// What one line of the input asks for.
+/// What one line of the input asks for: a form, named by its words, with what its parts say in the order in which they are written.
 #[derive(Debug, Drop)]
 pub enum Command {
     /// `theory U`: a new theory.
-    Theory {
-        unit: Name,
-    },
+    Theory(Name),
     /// `const U c(k, ..) -> k` or `const U c{k} -> k`: a new constant.
-    Constant {
-        unit: Name,
-        name: Name,
-        /// How it is used.
-        shape: Shape,
-        /// The kind of what it makes.
-        result: Kind,
-    },
+    Const(Name, Name, Shape, Kind),
     /// `axiom U r : claim`: a new axiom.
-    Axiom {
-        unit: Name,
-        rule: Name,
-        claim: Claim,
-    },
+    Axiom(Name, Name, Claim),
     /// `rule U r : claim`: a new rule that wants a proof.
-    Rule {
-        unit: Name,
-        rule: Name,
-        claim: Claim,
-    },
+    Rule(Name, Name, Claim),
     /// `proof r p`: a new proof of a rule, which needn't be there.
-    Proof {
-        rule: Name,
-        proof: Name,
-    },
+    Proof(Name, Name),
     /// `line r p l in b before x : t`: a new line of a proof, in a block, before an item or at the end.
-    Line {
-        rule: Name,
-        proof: Name,
-        label: Name,
-        block: Name,
-        before: Option<Name>,
-        tree: Tree,
-    },
+    Line(Name, Name, Name, Name, Option<Name>, Tree),
+    /// `box r p l in b before x : box`: a new box of a proof, in a block, before an item or at the end.
+    Box(Name, Name, Name, Name, Option<Name>, TypedVars, Trees),
     /// `cite r p l : why`: what a line holds by.
-    Cite {
-        rule: Name,
-        proof: Name,
-        label: Name,
-        why: Why,
-    },
+    Cite(Name, Name, Name, Why),
     /// `status r`: what is known of a rule.
-    Status {
-        rule: Name,
-    },
-    /// `show rule r`: a rule as it was stated.
-    ShowRule {
-        rule: Name,
-    },
+    Status(Name),
+    /// `show rule r`: a rule as it was stated, with its proofs.
+    ShowRule(Name),
+    /// `show proof r p`: a proof, item by item, with its verdict.
+    ShowProof(Name, Name),
 }

@@ -1,5 +1,6 @@
-ghost use Rattle.std.specs.Prelude.{◌≡◌, IfSome, find, is_some};
-ghost use Rattle.mu_tables.specs.Words.{lengthened};
+ghost use Rattle.std.specs.Prelude.{◌≡◌, IfSome, find, is_some, option_and_then};
+ghost use Rattle.mu_tables.specs.Tables.{the_forms};
+ghost use Rattle.mu_tables.specs.Words.{lengthened, number_behind, text_of};
 ghost use Rattle.mu_grammar.specs.Lexemes.{first_bytes};
 ghost use Rattle.mu_grammar.specs.Parts.{Gives, Same, first_as, starts};
 ghost use Rattle.mu_command.specs.Forms.{forms, is_front, named, number, numbered, read_form};
@@ -13,26 +14,30 @@ use mu_text::Reader;
 #[derive(Clone, Copy, Debug, PartialEq, Eq)]
 pub(crate) enum Form {
     Theory,
-    Constant,
+    Const,
     Axiom,
     Rule,
     Proof,
     Line,
+    Box,
     Cite,
     Status,
     ShowRule,
+    ShowProof,
 }
 
-const ALL: [Form; 9] = [
+const ALL: [Form; 11] = [
     Form::Theory,
-    Form::Constant,
+    Form::Const,
     Form::Axiom,
     Form::Rule,
     Form::Proof,
     Form::Line,
+    Form::Box,
     Form::Cite,
     Form::Status,
     Form::ShowRule,
+    Form::ShowProof,
 ];
 
 /// The number of the form in the table of words.
@@ -41,14 +46,26 @@ fn number(form: Form) -> u8
 {
     match form {
         Form::Theory => 1,
-        Form::Constant => 2,
+        Form::Const => 2,
         Form::Axiom => 3,
         Form::Rule => 4,
         Form::Proof => 5,
         Form::Line => 6,
-        Form::Cite => 7,
-        Form::Status => 8,
-        Form::ShowRule => 9,
+        Form::Box => 7,
+        Form::Cite => 8,
+        Form::Status => 9,
+        Form::ShowRule => 10,
+        Form::ShowProof => 11,
+    }
+}
+
+/// The words of a form, with one blank between each two.
+pub(crate) fn words(form: Form) -> &'static [u8]
+    ensures { result.now ≡ text_of (number form) the_forms }
+{
+    match forms().word(number(form)) {
+        Some(text) => text.as_bytes(),
+        None => b"",
     }
 }
 
@@ -64,10 +81,18 @@ fn form_ended(front: &[u8], reader: &Reader) -> Option<Form>
     ensures { result ≡ first_as (ended_by named front.now) reader.now }
 {
     match reader.peek() {
-        Some(Sort::Word(Word::Plain)) => forms()
-            .find_behind(front, reader.bytes())
-            .and_then(numbered),
+        Some(Sort::Word(Word::Plain)) => form_behind(front, reader.bytes()),
         _ => None,
+    }
+}
+
+/// The form whose words are this one behind those before it.
+fn form_behind(front: &[u8], word: &[u8]) -> Option<Form>
+    ensures { result ≡ option_and_then numbered (number_behind front.now word.now the_forms) }
+{
+    match forms().find_behind(front, word) {
+        Some(n) => numbered(n),
+        None => None,
     }
 }
 

@@ -5,7 +5,10 @@ mod canonical;
 mod command;
 mod forms;
 mod grammar;
+mod making;
+mod parts;
 mod readings;
+mod rows;
 
 pub use canonical::print;
 pub use command::Command;

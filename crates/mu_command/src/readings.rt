@@ -1,6 +1,7 @@
 ghost use Rattle.std.specs.Prelude.{◌≡◌, ◌-◌, ◌<◌, ◌^◌, length, IfOk};
 ghost use Rattle.mu_command.specs.declared.readings.Reading.TheVariants as Reading;
-ghost use Rattle.mu_grammar.specs.Texts.{AreWithin, column};
+ghost use Rattle.std.specs.List.{list_all};
+ghost use Rattle.mu_grammar.specs.Texts.{AreWithin, column, is_short_token};
 ghost use Rattle.mu_command.specs.Forms.{FormsHaveWords};
 ghost use Rattle.mu_command.specs.Readings.{ReadingIsExact, first_limit, or_text, reading_of, within_limits};
 ghost use Rattle.mu_command.specs.Canonical.{is_long};
@@ -46,10 +47,9 @@ pub fn read(alloc: Global, line: &[u8]) -> Result<Reading, NoMemory>
     match read_command(alloc, &mut reader, &mut excess) {
         Ok(command) => {
             if reader.len() == 0 {
-                let first = first_limit(are_short(line, tokens.items()), excess);
-                let passed = or_text(alloc, first, &command)?;
-                return Ok(within_limits(passed, command));
+                return within(alloc, line, tokens.items(), excess, command);
             }
+            discard(command);
             Ok(refused(line, tokens.items(), reader.len()))
         }
         Err(PartFault::Mismatch) => Ok(refused(line, tokens.items(), reader.len())),
@@ -57,13 +57,43 @@ pub fn read(alloc: Global, line: &[u8]) -> Result<Reading, NoMemory>
     }
 }
 
+/// What a line reads as whose tokens are all of this command.
+///
+/// # Errors
+///
+/// `NoMemory`.
+fn within(
+    alloc: Global,
+    line: &[u8],
+    tokens: &[Token],
+    excess: Excess,
+    command: Command,
+) -> Result<Reading, NoMemory>
+    ensures { IfOk result (λ reading. reading ≡ within_limits (or_text (first_limit (list_all (is_short_token line.now) tokens.now) excess) (is_long command)) command) }
+{
+    let first = first_limit(are_short(line, tokens), excess);
+    match or_text(alloc, first, &command) {
+        Ok(passed) => Ok(within_limits(passed, command)),
+        Err(fault) => {
+            discard(command);
+            Err(fault)
+        }
+    }
+}
+
+/// Lets a command go. What a command holds has many shapes: letting it go here alone keeps the proofs of the others short.
+fn discard(_command: Command) {}
+
 /// The command, where no limit is passed.
 fn within_limits(passed: Option<LimitWord>, command: Command) -> Reading
     ensures { result ≡ within_limits passed command }
 {
     match passed {
         None => Reading::Command(command),
-        Some(word) => Reading::Limit(word),
+        Some(word) => {
+            discard(command);
+            Reading::Limit(word)
+        }
     }
 }
 

@@ -1,5 +1,6 @@
 -- The equations of `nameless`, one for each variant.
 use Rattle.std.proofs.Common.{◌≡◌, ℕ, List, [], ◌∷◌, ◌++◌, map, ap, refl, sym, ◌∙◌}
+use Rattle.std.proofs.lemmas.List.{append-nil, append_assoc}
 use Rattle.std.proofs.lemmas.Simd.{map-map}
 use Rattle.mu_tree.specs.declared.trees.Tree.{Tree}
 use Rattle.mu_tree.specs.declared.trees.Tree.TheOpen.{App, Meta, Bind}
@@ -8,6 +9,7 @@ use Rattle.mu_tree.specs.declared.trees.Tree.TheVariants as tree
 use Rattle.mu_decl.specs.declared.bare.Bare.{Bare}
 use Rattle.mu_decl.specs.declared.bare.Bare.TheVariants as bare
 use Rattle.mu_decl.specs.Nameless.{nameless, nameless_step, applied}
+use Rattle.mu_decl.proofs.Places.{place-append}
 
 pub nameless-app : (scope bound : List (List ℕ)) (n : List ℕ) (arguments : List Tree) → nameless scope bound (tree.App n arguments) ≡ applied scope bound n (map (nameless scope bound) arguments)
 unfolding nameless
@@ -39,3 +41,9 @@ nameless-bind scope bound b v domain body =
     ap (λ t. at (under t)) (sym (tree.rolls-Bind b v domain body)) ∙ ap at (fold-roll-Tree (List (List ℕ) → Bare) (nameless_step scope) (Bind b v domain body))
 
 pub ruleset nameless_equations = (nameless-app, nameless-some, nameless-meta, nameless-bind)
+
+-- lists of names within one another
+pub ruleset scope_equations = (append-nil, append_assoc)
+
+-- the place of a name
+pub ruleset place_equations = (place-append)

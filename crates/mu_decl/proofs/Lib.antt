@@ -4,10 +4,14 @@ pub mod Closing
 pub mod EnteredClosed
 pub mod EnteredOpened
 pub mod EnteringEquations
+pub mod Finding
 pub mod FirstPlaces
 pub mod FormingEquations
+pub mod FreeVariables
 pub mod InStep
 pub mod Induction
+pub mod LastPlaces
+pub mod Layers
 pub mod OpeningEquations
 pub mod Places
 pub mod Reading
@@ -20,5 +24,4 @@ pub mod Translation
 pub mod UnfoldedEquations
 pub mod UnfoldedOpened
 pub mod Untouched
-pub mod Variables
 pub mod Weights

@@ -1,14 +1,17 @@
 pub mod Abstractions
 pub mod Arities
+pub mod Binders
 pub mod Claims
 pub mod Comparing
 pub mod Contexts
+pub mod Finding
 pub mod Formation
 pub mod Instantiating
 pub mod Laws
 pub mod Nameless
 pub mod Nothing
 pub mod Opening
+pub mod Scopes
 pub mod Translating
 pub mod Unfolding
 pub mod Weights

@@ -1,41 +1,91 @@
-ghost use Rattle.std.specs.Prelude.{◌≡◌, ◌++◌, map, true, IfOk, OnOk};
+ghost use Rattle.std.specs.Prelude.{◌≡◌, ◌++◌, ◌&&◌, [], map, true, IfOk, OnOk};
 ghost use Rattle.std.specs.List.{list_all, flat_map};
-ghost use Rattle.mu_decl.specs.Formation.{expression};
-ghost use Rattle.mu_decl.specs.Claims.{names_of, types_formed, type_occurrences, hypothesis_occurrences, claim_occurrences, hypothesis_formed, claim_formed, well_formed};
+ghost use Rattle.mu_tree.specs.declared.claim.Kind.TheVariants.{E};
+ghost use Rattle.mu_decl.specs.Formation.{expression, is_formed};
+ghost use Rattle.mu_decl.specs.Claims.{names_of, scope_of, types_formed, type_occurrences, hypothesis_occurrences, claim_occurrences, hypothesis_formed, claim_formed, well_formed};
 
 use crate::arities::occurrences_agree;
 use crate::contexts::Context;
-use crate::formation::{Scope, Scoped, all_formed, is_formed};
+use crate::formation::{Around, all_formed, is_formed};
 use crate::occurring::{Occurrences, all_occurrences, occurrences};
-use mu_tree::{Claim, Hyp, Kind, Name, Names, NoMemory, Sequence, TypedVar};
+use crate::scopes::Variables;
+use mu_tree::{Claim, Hyp, Kind, Name, Names, NoMemory, Sequence, Tree, TypedVar};
 use std::alloc::Global;
 
 /// Whether each variable's type is well formed in the scope of the variables before it. Where all are, the variables
-/// come into scope.
+/// have come to those that the types began with.
 ///
 /// # Errors
 ///
-/// `NoMemory` may come at any variables; the scope may then have some more.
+/// `NoMemory` may come at any variables; some of them may then have come.
+#[tactic(auto, using(crate::proofs::Layers::variable_equations))]
 pub fn types_formed<C: Context>(
     alloc: Global,
     context: &C,
     seen: &Names,
-    scope: &mut Scope,
+    scope: &Variables,
+    own: &mut Variables,
     vars: &[TypedVar],
 ) -> Result<bool, NoMemory>
-    ensures formed { IfOk result (λ yes. yes ≡ types_formed (C.world context.now) seen.now scope.old vars.now) }
-    ensures entered { IfOk result (λ yes. yes ≡ true → scope.new ≡ scope.old ++ map expression (names_of vars.now)) }
+    ensures formed { IfOk result (λ yes. yes ≡ types_formed (C.world context.now) seen.now (map expression scope.now ++ map expression own.old) vars.now) }
+    ensures entered { IfOk result (λ yes. yes ≡ true → own.new ≡ own.old ++ names_of vars.now) }
 {
     for var in vars {
-        if !is_formed(alloc, context, seen, scope, Kind::T, &var.ty)? {
+        if !is_formed(
+            alloc,
+            context,
+            seen,
+            Around { scope, own },
+            Kind::T,
+            &var.ty,
+        )? {
             return Ok(false);
         }
-        scope.push(Scoped {
-            name: var.name.copy(alloc)?,
-            kind: Kind::E,
-        })?;
+        own.push(alloc, var.name.copy(alloc)?)?;
     }
     Ok(true)
+}
+
+/// Whether a tree is a well-formed element with no variable in scope.
+fn stated_formed<C: Context>(
+    alloc: Global,
+    context: &C,
+    seen: &Names,
+    tree: &Tree,
+) -> Result<bool, NoMemory>
+    ensures { IfOk result (λ yes. yes ≡ is_formed (C.world context.now) seen.now [] E tree.now) }
+{
+    let none = Variables::new(alloc);
+    let around = Around {
+        scope: &none,
+        own: &none,
+    };
+    is_formed(alloc, context, seen, around, Kind::E, tree)
+}
+
+fn sequent_formed<C: Context>(
+    alloc: Global,
+    context: &C,
+    seen: &Names,
+    vars: &[TypedVar],
+    premises: &[Tree],
+    upshot: &Tree,
+) -> Result<bool, NoMemory>
+    ensures { IfOk result (λ yes. yes ≡ (types_formed (C.world context.now) seen.now [] vars.now && list_all (is_formed (C.world context.now) seen.now (scope_of vars.now) E) premises.now && is_formed (C.world context.now) seen.now (scope_of vars.now) E upshot.now)) }
+{
+    let none = Variables::new(alloc);
+    let mut own = Variables::new(alloc);
+    if !types_formed(alloc, context, seen, &none, &mut own, vars)? {
+        return Ok(false);
+    }
+    let around = Around {
+        scope: &none,
+        own: &own,
+    };
+    if !all_formed(alloc, context, seen, around, premises)? {
+        return Ok(false);
+    }
+    is_formed(alloc, context, seen, around, Kind::E, upshot)
 }
 
 fn hypothesis_formed<C: Context>(
@@ -46,22 +96,20 @@ fn hypothesis_formed<C: Context>(
 ) -> Result<bool, NoMemory>
     ensures { IfOk result (λ yes. yes ≡ hypothesis_formed (C.world context.now) seen.now hypothesis.now) }
 {
-    let mut scope = Sequence::new(alloc);
     match hypothesis {
-        Hyp::Plain(tree) => is_formed(alloc, context, seen, &mut scope, Kind::E, tree),
+        Hyp::Plain(tree) => stated_formed(alloc, context, seen, tree),
         Hyp::Sequent {
             vars,
             premises,
             upshot,
-        } => {
-            if !types_formed(alloc, context, seen, &mut scope, vars.items())? {
-                return Ok(false);
-            }
-            if !all_formed(alloc, context, seen, &mut scope, premises.as_slice())? {
-                return Ok(false);
-            }
-            is_formed(alloc, context, seen, &mut scope, Kind::E, upshot)
-        }
+        } => sequent_formed(
+            alloc,
+            context,
+            seen,
+            vars.items(),
+            premises.as_slice(),
+            upshot,
+        ),
     }
 }
 
@@ -153,8 +201,7 @@ fn claim_formed<C: Context>(
     if !hypotheses_formed(alloc, context, seen, claim.hyps.items())? {
         return Ok(false);
     }
-    let mut scope = Sequence::new(alloc);
-    if !is_formed(alloc, context, seen, &mut scope, Kind::E, &claim.conclusion)? {
+    if !stated_formed(alloc, context, seen, &claim.conclusion)? {
         return Ok(false);
     }
     let found = claim_occurrences(alloc, context, claim)?;

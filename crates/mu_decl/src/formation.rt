@@ -1,12 +1,15 @@
-ghost use Rattle.std.specs.Prelude.{◌≡◌, ◌++◌, map, IfOk, OnOk};
+ghost use Rattle.std.specs.Prelude.{◌≡◌, ◌++◌, ◌||◌, Some, None, cond, map, IfOk, OnOk};
 ghost use Rattle.std.specs.Cmp.Lexicographic.{pointwise};
 ghost use Rattle.std.specs.List.{list_all};
 ghost use Rattle.std.specs.Option.{option_copied};
 ghost use Rattle.mu_tree.specs.declared.claim.Kind.TheVariants.{E};
+ghost use Rattle.mu_tree.specs.Names.{is_among};
 ghost use Rattle.mu_decl.specs.Formation.{kind_at, shape_for, argument_kinds, body_kind, is_formed, kind_in, expression};
+ghost use Rattle.mu_decl.specs.Scopes.{layered};
 
 use crate::contexts::Context;
 use crate::declaration::ConstDecl;
+use crate::scopes::Variables;
 use mu_tree::{Kind, Name, Names, NoMemory, Sequence, Shape, Tree};
 use std::alloc::Global;
 
@@ -20,33 +23,46 @@ pub struct Scoped {
 /// Variables in scope, the innermost last.
 pub type Scope = Sequence<Scoped>;
 
-/// Brings variables of expressions into scope, the last one innermost.
-///
-/// # Errors
-///
-/// `NoMemory` may come at any names; the scope then has some of them.
-pub fn add_expressions(alloc: Global, names: &[Name], scope: &mut Scope) -> Result<(), NoMemory>
-    ensures { OnOk result (scope.new ≡ scope.old ++ map expression names.now) }
-{
-    for name in names {
-        scope.push(Scoped {
-            name: name.copy(alloc)?,
-            kind: Kind::E,
-        })?;
-    }
-    Ok(())
+/// The variables of elements around a tree: those in scope, and further ones within these.
+#[derive(Clone, Copy)]
+pub struct Around<'a> {
+    /// Those in scope.
+    pub scope: &'a Variables,
+    /// Those within them.
+    pub own: &'a Variables,
 }
 
 #[tactic(auto, unfolding(crate::specs::Formation::kind_in))]
-fn kind_in(scope: &Scope, name: &Name) -> Option<Kind>
-    ensures { result ≡ kind_in scope.now name.now }
+fn inner_kind(inner: &Scope, name: &Name) -> Option<Kind>
+    ensures { result ≡ kind_in inner.now name.now }
 {
-    scope
+    inner
         .items()
         .iter()
         .rev()
         .find(|s| s.name == *name)
         .map(|s| s.kind)
+}
+
+fn outer_kind(around: Around, name: &Name) -> Option<Kind>
+    ensures { result ≡ cond (is_among around.entry.own.now name.now || is_among around.entry.scope.now name.now) (Some E) None }
+{
+    if around.own.contains(name) || around.scope.contains(name) {
+        Some(Kind::E)
+    } else {
+        None
+    }
+}
+
+/// The kind of a variable, the innermost of its name.
+#[tactic(auto, using(crate::proofs::Layers::layer_equations))]
+fn kind_in(around: Around, inner: &Scope, name: &Name) -> Option<Kind>
+    ensures { result ≡ kind_in (layered around.entry.scope.now around.entry.own.now inner.now) name.now }
+{
+    match inner_kind(inner, name) {
+        Some(kind) => Some(kind),
+        None => outer_kind(around, name),
+    }
 }
 
 // The shape of a constant that is there, is seen, and makes expressions of this kind.
@@ -106,24 +122,65 @@ pub(crate) fn kind_at(kinds: &[Kind], i: usize) -> Kind
 ///
 /// # Errors
 ///
-/// `NoMemory` may come at any tree; the scope may then have inner variables more.
-#[cycle(is_formed)]
-#[tactic(auto, using(crate::proofs::FormingEquations::formed_equations))]
+/// `NoMemory` may come at any tree.
+#[tactic(auto, using(crate::proofs::EnteringEquations::scope_equations))]
 pub fn is_formed<C: Context>(
     alloc: Global,
     context: &C,
     seen: &Names,
-    scope: &mut Scope,
+    around: Around,
     kind: Kind,
     tree: &Tree,
 ) -> Result<bool, NoMemory>
-    ensures value { IfOk result (λ yes. yes ≡ is_formed (C.world context.now) seen.now scope.old kind tree.now) }
-    ensures kept { OnOk result (scope.new ≡ scope.old) }
+    ensures { IfOk result (λ yes. yes ≡ is_formed (C.world context.now) seen.now (map expression around.entry.scope.now ++ map expression around.entry.own.now) kind tree.now) }
+{
+    let mut inner = Sequence::new(alloc);
+    is_formed_within(alloc, context, seen, around, &mut inner, kind, tree)
+}
+
+/// Whether all of some trees are well-formed expressions of the kind of elements.
+///
+/// # Errors
+///
+/// `NoMemory` may come at any trees.
+#[tactic(auto, using(crate::proofs::EnteringEquations::scope_equations))]
+pub fn all_formed<C: Context>(
+    alloc: Global,
+    context: &C,
+    seen: &Names,
+    around: Around,
+    trees: &[Tree],
+) -> Result<bool, NoMemory>
+    ensures { IfOk result (λ yes. yes ≡ list_all (is_formed (C.world context.now) seen.now (map expression around.entry.scope.now ++ map expression around.entry.own.now) E) trees.now) }
+{
+    let mut inner = Sequence::new(alloc);
+    all_formed_within(alloc, context, seen, around, &mut inner, trees)
+}
+
+/// Whether a tree is a well-formed expression of a kind, as `is_formed` says, with further variables of any kind within
+/// all others.
+///
+/// # Errors
+///
+/// `NoMemory` may come at any tree; there may then be inner variables more.
+#[cycle(is_formed)]
+#[tactic(auto, using(crate::proofs::FormingEquations::formed_equations, crate::proofs::EnteringEquations::scope_equations))]
+pub fn is_formed_within<C: Context>(
+    alloc: Global,
+    context: &C,
+    seen: &Names,
+    around: Around,
+    inner: &mut Scope,
+    kind: Kind,
+    tree: &Tree,
+) -> Result<bool, NoMemory>
+    ensures value { IfOk result (λ yes. yes ≡ is_formed (C.world context.now) seen.now (layered around.entry.scope.now around.entry.own.now inner.old) kind tree.now) }
+    ensures kept { OnOk result (inner.new ≡ inner.old) }
 {
     match tree {
         Tree::App(name, arguments) => {
             if arguments.is_empty() {
-                if let Some(found) = kind_in(scope, name) {
+                if let Some(found) = kind_in(around, inner, name) {
                     return Ok(found == kind);
                 }
             }
@@ -133,7 +190,8 @@ pub fn is_formed<C: Context>(
                         alloc,
                         context,
                         seen,
-                        scope,
+                        around,
+                        inner,
                         kinds.items(),
                         arguments.as_slice(),
                     )
@@ -141,7 +199,9 @@ pub fn is_formed<C: Context>(
                 _ => Ok(false),
             }
         }
-        Tree::Meta(_, arguments) => all_formed(alloc, context, seen, scope, arguments.as_slice()),
+        Tree::Meta(_, arguments) => {
+            all_formed_within(alloc, context, seen, around, inner, arguments.as_slice())
+        }
         Tree::Bind {
             binder,
             var,
@@ -149,16 +209,24 @@ pub fn is_formed<C: Context>(
             body,
         } => match shape_for(seen, kind, context.constant(binder)) {
             Some(Shape::Binder(body_kind)) => {
-                if !is_formed(alloc, context, seen, scope, Kind::T, dom.get())? {
+                if !is_formed_within(alloc, context, seen, around, inner, Kind::T, dom.get())? {
                     return Ok(false);
                 }
-                let outer = scope.len();
-                scope.push(Scoped {
+                let outer = inner.len();
+                inner.push(Scoped {
                     name: var.copy(alloc)?,
                     kind: Kind::E,
                 })?;
-                let formed = is_formed(alloc, context, seen, scope, *body_kind, body.get())?;
-                scope.truncate(outer);
+                let formed = is_formed_within(
+                    alloc,
+                    context,
+                    seen,
+                    around,
+                    inner,
+                    *body_kind,
+                    body.get(),
+                )?;
+                inner.truncate(outer);
                 Ok(formed)
             }
             _ => Ok(false),
@@ -172,42 +240,48 @@ fn are_formed<C: Context>(
     alloc: Global,
     context: &C,
     seen: &Names,
-    scope: &mut Scope,
+    around: Around,
+    inner: &mut Scope,
     kinds: &[Kind],
     trees: &[Tree],
 ) -> Result<bool, NoMemory>
-    ensures value { IfOk result (λ yes. yes ≡ pointwise (is_formed (C.world context.now) seen.now scope.old) kinds.now trees.now) }
-    ensures kept { OnOk result (scope.new ≡ scope.old) }
+    ensures value { IfOk result (λ yes. yes ≡ pointwise (is_formed (C.world context.now) seen.now (layered around.entry.scope.now around.entry.own.now inner.old)) kinds.now trees.now) }
+    ensures kept { OnOk result (inner.new ≡ inner.old) }
 {
     if kinds.len() != trees.len() {
         return Ok(false);
     }
     for i in 0..kinds.len() {
-        if !is_formed(alloc, context, seen, scope, kind_at(kinds, i), &trees[i])? {
+        if !is_formed_within(
+            alloc,
+            context,
+            seen,
+            around,
+            inner,
+            kind_at(kinds, i),
+            &trees[i],
+        )? {
             return Ok(false);
         }
     }
     Ok(true)
 }
 
-/// Whether all of some trees are well-formed expressions of the kind of elements.
-///
-/// # Errors
-///
-/// `NoMemory` may come at any trees; the scope may then have inner variables more.
+// Whether all of some trees are well-formed expressions of the kind of elements.
 #[cycle(is_formed)]
-pub fn all_formed<C: Context>(
+fn all_formed_within<C: Context>(
     alloc: Global,
     context: &C,
     seen: &Names,
-    scope: &mut Scope,
+    around: Around,
+    inner: &mut Scope,
     trees: &[Tree],
 ) -> Result<bool, NoMemory>
-    ensures value { IfOk result (λ yes. yes ≡ list_all (is_formed (C.world context.now) seen.now scope.old E) trees.now) }
-    ensures kept { OnOk result (scope.new ≡ scope.old) }
+    ensures value { IfOk result (λ yes. yes ≡ list_all (is_formed (C.world context.now) seen.now (layered around.entry.scope.now around.entry.own.now inner.old) E) trees.now) }
+    ensures kept { OnOk result (inner.new ≡ inner.old) }
 {
     for tree in trees {
-        if !is_formed(alloc, context, seen, scope, Kind::E, tree)? {
+        if !is_formed_within(alloc, context, seen, around, inner, Kind::E, tree)? {
             return Ok(false);
         }
     }

@@ -36,7 +36,7 @@ pub struct Abstraction {
 ///
 /// `NoMemory` may come at any tree, and comes where more than a million nodes would be made, an inserted body would be
 /// deeper than four thousand levels, or an index would pass `u64::MAX`.
-#[tactic(auto, using(crate::proofs::Variables::variables_stay, crate::proofs::Closing::instances_are_closed, crate::proofs::Capture::nothing_is_captured))]
+#[tactic(auto, using(crate::proofs::FreeVariables::variables_stay, crate::proofs::Closing::instances_are_closed, crate::proofs::Capture::nothing_is_captured))]
 pub fn instantiate(alloc: Global, tree: &Bare, given: &[Abstraction]) -> Result<Bare, NoMemory>
     ensures value { IfOk result (λ bare. bare ≡ instantiated given.now tree.now) }
     ensures bounded { IfOk result (λ bare. weight bare ≤ 2 ^ 20) }

@@ -1,13 +1,16 @@
-ghost use Rattle.std.specs.Prelude.{◌≡◌, ◌+◌, ◌≤◌, ◌^◌, IfOk, map};
+ghost use Rattle.std.specs.Prelude.{◌≡◌, ◌+◌, ◌≤◌, ◌^◌, [], IfOk, map};
+ghost use Rattle.mu_decl.specs.Nameless.{nameless};
 ghost use Rattle.mu_decl.specs.Laws.{UnfoldingOpens};
 ghost use Rattle.mu_decl.specs.Weights.{weight, weights};
 ghost use Rattle.mu_decl.specs.Unfolding.{unfolded, unfolded_application, delta_of};
 
 use crate::bare::{Bare, Bares};
+use crate::binders::Binders;
 use crate::growing::{MOST_NODES, application, binding, metavariable, place, spend, variable};
 use crate::nameless::enter;
 use crate::opening::opened_within;
-use mu_tree::{Definition, Name, Names, NoMemory};
+use crate::scopes::Variables;
+use mu_tree::{Definition, Name, NoMemory};
 use sqlite_items::Items;
 use std::alloc::Global;
 
@@ -30,12 +33,21 @@ pub fn delta_of(
 ) -> Result<DeltaRule, NoMemory>
     ensures { IfOk result (λ delta. delta ≡ delta_of constant.now definition.now) }
 {
-    let scope = Names::new(alloc);
+    let body = entered_body(alloc, definition)?;
     Ok(DeltaRule {
         constant: constant.copy(alloc)?,
         count: definition.params.len(),
-        body: enter(alloc, &definition.body, &scope, &definition.params)?,
+        body,
     })
+}
+
+/// The body of a definition under its parameters.
+fn entered_body(alloc: Global, definition: &Definition) -> Result<Bare, NoMemory>
+    ensures { IfOk result (λ body. body ≡ nameless [] definition.now.params definition.now.body) }
+{
+    let scope = Variables::new(alloc);
+    let bound = Binders::of(alloc, definition.params.items())?;
+    enter(alloc, &definition.body, &scope, &bound)
 }
 
 /// A tree with a defined constant replaced by its definition wherever it stands with as many arguments as there are

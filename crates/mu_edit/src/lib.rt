@@ -2,5 +2,7 @@
 #![tactic(auto)]
 
 mod changes;
+mod distinct;
+mod repeats;
 
 pub use changes::apply;

@@ -1,16 +1,14 @@
 -- What rules lead to after an edit of a proof.
-use Rattle.std.proofs.Common.{◌≡◌, inl, inr, refl, sym, ap, subst, ◌∙◌, cond, ℕ, Bool, true, false, List, [], ◌∷◌, ◌++◌, take, drop, Option, Some, None}
+use Rattle.std.proofs.Common.{◌≡◌, inl, inr, refl, sym, ap, subst, ◌∙◌, cond, ℕ, true, false, List, [], ◌∷◌, ◌++◌, Option, Some, None}
 use Rattle.std.specs.Prelude.{◌⊎◌, is_some}
-use Rattle.std.specs.List.{flat_map, insert}
+use Rattle.std.specs.List.{flat_map}
 use Rattle.std.specs.Option.{option_map_or}
 use Rattle.std.specs.Ordering.{nat_cmp, eq_by_cmp}
 use Rattle.std.specs.declared.cmp.Ordering.TheVariants.{Less, Equal, Greater}
 use Rattle.std.specs.Cmp.Lexicographic.{slice_cmp, nat_list_cmp_total}
 use Rattle.std.specs.FinMap as finite
 use Rattle.std.specs.FinMap.Entries.{by_order, put, find}
-use Rattle.std.proofs.lemmas.Bool.{false≢true, and_parts, cond-true, or_cases}
-use Rattle.std.proofs.lemmas.Grind.{flat_map-append}
-use Rattle.std.proofs.lemmas.List.{take-append-drop}
+use Rattle.std.proofs.lemmas.Bool.{false≢true}
 use Rattle.mu_tree.specs.Maps.{MapOf, NamesOf}
 use Rattle.mu_tree.specs.declared.why.Given.{Given}
 use Rattle.mu_tree.specs.declared.why.Ref.{Ref}
@@ -21,20 +19,16 @@ use Rattle.mu_tree.proofs.TableLemmas.{no_entries}
 use Rattle.mu_graph.specs.Derivations.{Stands}
 use Rattle.mu_graph.specs.Circles.{DiffersAt, GainsAt}
 use Rattle.mu_graph.proofs.DerivationLemmas.{stands_front, stands_back, stands_either}
-use Rattle.mu_proof.specs.Items.{is_line, is_line_at, line_step, with_why, why_step, rejustified}
-use Rattle.mu_proof.specs.Proofs.{is_line_label, place_of, with_why_at}
+use Rattle.mu_proof.specs.Edits.{inserted, altered}
+use Rattle.mu_proof.specs.declared.alteration.Alteration.TheVariants as alteration
 use Rattle.mu_proof.specs.declared.items.Item.{Item}
-use Rattle.mu_proof.specs.declared.items.Item.TheOpen.{Item-F, Line, Block}
-use Rattle.mu_proof.specs.declared.items.Item.TheFolds.{fold_out-Item, map-Item}
-use Rattle.mu_proof.specs.declared.items.Item.TheVariants as item
-use Rattle.mu_proof.specs.declared.items.Item.TheViews.{out-Item, roll-Item, roll-out-Item}
-use Rattle.mu_proof.specs.Citations.{item_cites, cites, cited_by, morphism_cited}
+use Rattle.mu_proof.specs.Citations.{cites, cited_by, morphism_cited}
 use Rattle.mu_proof.specs.declared.citations.Cited.{Cited}
 use Rattle.mu_proof.specs.declared.citations.Cited.TheVariants.{Rule, Morphism}
-use Rattle.mu_proof.proofs.CitationEquations.{cites-line}
 use Rattle.mu_flat.specs.CiterTables.{CitersOf, citers_of, with_citer, HasAllCiters, AddsCiter}
-use Rattle.mu_flat.specs.ProofTables.{ProofsOf, proofs_of, proof_at, with_proof, with_item_in, with_item_at, has_line_at, with_reason_in, with_reason_at, cited_in, leads}
-use Rattle.mu_flat.specs.Edits.{IsOpenLine}
+use Rattle.mu_flat.specs.ProofTables.{ProofsOf, proofs_of, proof_at, with_proof, with_change_in, with_item_at, has_line_at, with_reason_at, cited_in, leads}
+use Rattle.mu_flat.specs.Edits.{IsOpen}
+use Rattle.mu_flat.proofs.EditCites.{inserted_cites, open_cites, reason_cites, reason_there}
 use Rattle.mu_flat.proofs.ProofTables.{proof_at-with_proof}
 
 -- ---- maps of lists
@@ -109,95 +103,45 @@ module _ (proofs : ProofsOf) (rule : List ℕ) where
           | inr n ↦ inr (subst (λ found. Stands to (option_map_or cited_in found [])) (get-insert_other proofs rule there name n) s)
         ]
 
--- ---- what edited items cite
-step_cites : (why : Option Why) (y : Item-F Item) (to : Cited) → Stands to (item_cites (why_step why y)) → Stands to (cited_by why) ⊎ Stands to (item_cites (roll-Item y))
-step_cites why (Line label tree before) to s = inl (subst (Stands to) (cites-line label tree why) s)
-step_cites why (Block label vars assumptions items) to s = inr (subst (λ i. Stands to (item_cites i)) (sym (item.rolls-Block label vars assumptions items)) s)
-
-module _ (label : List ℕ) (why : Option Why) where
-  rejustified_cites : (i : Item) (to : Cited) → Stands to (item_cites (rejustified label why i)) → Stands to (cited_by why) ⊎ Stands to (item_cites i)
-  rejustified_cites i to s = elim (is_line_at label i) as (λ b. Stands to (item_cites (cond b (with_why why i) i)) → Stands to (cited_by why) ⊎ Stands to (item_cites i)) [
-    | true ↦ λ t. elim (step_cites why (out-Item i) to t) [ inl u ↦ inl u | inr u ↦ inr (subst (λ j. Stands to (item_cites j)) (roll-out-Item i) u) ]
-    | false ↦ λ t. inr t
-  ] s
-
-  -- with another reason of a line, a proof cites what the reason does and what it cited before
-  pub reason_cites : (items : List Item) (to : Cited) → Stands to (cites (with_why_at items label why)) → Stands to (cited_by why) ⊎ Stands to (cites items)
-  reason_cites [] to s = absurd s
-  reason_cites (i ∷ items) to s = elim (stands_either to (item_cites (rejustified label why i)) (cites (with_why_at items label why)) s) [
-    | inl t ↦ elim (rejustified_cites i to t) [ inl u ↦ inl u | inr u ↦ inr (stands_front to (item_cites i) (cites items) u) ]
-    | inr t ↦ elim (reason_cites items to t) [ inl u ↦ inl u | inr u ↦ inr (stands_back to (item_cites i) (cites items) u) ]
-  ]
-
--- where a line has the label, all that the reason cites
-step_there : (why : Option Why) (y : Item-F Item) → line_step (map-Item Item Bool is_line y) ≡ true → (to : Cited) → Stands to (cited_by why) → Stands to (item_cites (why_step why y))
-step_there why (Line label tree before) is to s = subst (Stands to) (sym (cites-line label tree why)) s
-step_there why (Block label vars assumptions items) is to s = absurd (false≢true is)
-
-module _ (label : List ℕ) (why : Option Why) where
-  rejustified_there : (i : Item) → is_line_at label i ≡ true → (to : Cited) → Stands to (cited_by why) → Stands to (item_cites (rejustified label why i))
-  rejustified_there i at to s =
-      subst (λ j. Stands to (item_cites j)) (sym (cond-true (is_line_at label i) (with_why why i) i at))
-      (step_there why (out-Item i) (sym (fold_out-Item Bool line_step i) ∙ (and_parts _ _ at).1) to s)
-
-  pub reason_there : (items : List Item) → is_line_label items label ≡ true → (to : Cited) → Stands to (cited_by why) → Stands to (cites (with_why_at items label why))
-  reason_there [] is to s = absurd (false≢true is)
-  reason_there (i ∷ items) is to s = elim (or_cases _ _ is) [
-    | inl at ↦ stands_front to (item_cites (rejustified label why i)) (cites (with_why_at items label why)) (rejustified_there i at to s)
-    | inr later ↦ stands_back to (item_cites (rejustified label why i)) (cites (with_why_at items label why)) (reason_there items later to s)
-  ]
-
--- with one more item, a proof cites what the item does and what it cited before
-pub insert_cites : (items : List Item) (at : ℕ) (line : Item) (to : Cited) → Stands to (cites (insert items at line)) → Stands to (item_cites line) ⊎ Stands to (cites items)
-insert_cites items at line to s =
-    let front : List Cited = cites (take at items) in
-    let back : List Cited = cites (drop at items) in
-    let both : front ++ back ≡ cites items = sym (flat_map-append item_cites (take at items) (drop at items)) ∙ ap cites (take-append-drop at items) in
-    elim (stands_either to front (item_cites line ++ back) (subst (Stands to) (flat_map-append item_cites (take at items) (line ∷ drop at items)) s)) [
-      | inl t ↦ inr (subst (Stands to) both (stands_front to front back t))
-      | inr t ↦ elim (stands_either to (item_cites line) back t) [ inl u ↦ inl u | inr u ↦ inr (subst (Stands to) both (stands_back to front back u)) ]
-    ]
-
--- ---- an empty proof and a line without a reason
+-- ---- an empty proof and an item that is open
 -- an empty proof cites nothing
 pub empty_leads : (proofs : ProofsOf) (rule proof : List ℕ) (from to : Cited) → Stands to (leads (with_proof proofs rule proof []) from) → Stands to (leads proofs from)
 empty_leads proofs rule proof from to s = elim (edit_leads proofs rule proof [] [] (λ other t. inl t) from to s) [ inl t ↦ absurd t | inr t ↦ t ]
 
--- nor does a line without a reason
-pub line_leads : (proofs : ProofsOf) (rule proof : List ℕ) (items : List Item) (at : ℕ) (line : Item) → IsOpenLine line → proof_at proofs rule proof ≡ Some items
-    → (from to : Cited) → Stands to (leads (with_proof proofs rule proof (insert items at line)) from) → Stands to (leads proofs from)
-line_leads proofs rule proof items at line open_ is from to s =
-    elim (edit_leads proofs rule proof (insert items at line) []
-    (λ other t. elim (insert_cites items at line other t) [
-      | inl u ↦ inl (subst (Stands other) (ap item_cites open_.2 ∙ cites-line open_.0 open_.1 None) u)
-      | inr u ↦ inr (cited_leads proofs rule proof items is other u)
-    ]) from to s) [ inl t ↦ absurd t | inr t ↦ t ]
+-- nor does an item that is open
+module _ (proofs : ProofsOf) (rule proof block : List ℕ) (before : Option (List ℕ)) (new : Item) (open_ : IsOpen new) where
+  put_leads : (items : List Item) → proof_at proofs rule proof ≡ Some items → (from to : Cited) → Stands to (leads (with_proof proofs rule proof (inserted items block before new)) from) → Stands to (leads proofs from)
+  put_leads items is from to s =
+      elim (edit_leads proofs rule proof (inserted items block before new) []
+      (λ other t. elim (inserted_cites block before new items other t) [
+        | inl u ↦ absurd (open_cites new open_ other u)
+        | inr u ↦ inr (cited_leads proofs rule proof items is other u)
+      ]) from to s) [ inl t ↦ absurd t | inr t ↦ t ]
 
--- and where a line without a reason was put into one of them
-pub item_leads : (proofs : ProofsOf) (rule proof : List ℕ) (before : Option (List ℕ)) (line : Item) → IsOpenLine line → (from to : Cited) → Stands to (leads (with_item_at proofs rule proof before line) from)
-    → Stands to (leads proofs from)
-item_leads proofs rule proof before line open_ = go (proof_at proofs rule proof) refl
-  where
-    go : (found : Option (List Item)) → proof_at proofs rule proof ≡ found → (from to : Cited) → Stands to (leads (with_item_in proofs rule proof before line found) from) → Stands to (leads proofs from)
-    go None is from to s = s
-    go (Some items) is from to s = line_leads proofs rule proof items (place_of items before) line open_ is from to s
+  -- where it is put into one of the proofs
+  pub item_leads : (from to : Cited) → Stands to (leads (with_item_at proofs rule proof block before new) from) → Stands to (leads proofs from)
+  item_leads = go (proof_at proofs rule proof) refl
+    where
+      go : (found : Option (List Item)) → proof_at proofs rule proof ≡ found → (from to : Cited) → Stands to (leads (with_change_in proofs rule proof (λ items. inserted items block before new) found) from) → Stands to (leads proofs from)
+      go None is from to s = s
+      go (Some items) is from to s = put_leads items is from to s
 
 -- ---- another reason of a line
 module _ (proofs : ProofsOf) (rule proof label : List ℕ) (why : Option Why) where
   pub reason_differs : DiffersAt (leads proofs) (leads (with_reason_at proofs rule proof label why)) (Rule rule)
   reason_differs = go (proof_at proofs rule proof)
     where
-      go : (found : Option (List Item)) → DiffersAt (leads proofs) (leads (with_reason_in proofs rule proof label why found)) (Rule rule)
+      go : (found : Option (List Item)) → DiffersAt (leads proofs) (leads (with_change_in proofs rule proof (λ items. altered items label (alteration.Why why)) found)) (Rule rule)
       go None from = inr refl
-      go (Some items) from = edit_differs proofs rule proof (with_why_at items label why) from
+      go (Some items) from = edit_differs proofs rule proof (altered items label (alteration.Why why)) from
 
   -- only what the reason cites is led to anew
   pub reason_leads : (from to : Cited) → Stands to (leads (with_reason_at proofs rule proof label why) from) → Stands to (cited_by why) ⊎ Stands to (leads proofs from)
   reason_leads from to s = go (proof_at proofs rule proof) refl s
     where
-      go : (found : Option (List Item)) → proof_at proofs rule proof ≡ found → Stands to (leads (with_reason_in proofs rule proof label why found) from) → Stands to (cited_by why) ⊎ Stands to (leads proofs from)
+      go : (found : Option (List Item)) → proof_at proofs rule proof ≡ found → Stands to (leads (with_change_in proofs rule proof (λ items. altered items label (alteration.Why why)) found) from) → Stands to (cited_by why) ⊎ Stands to (leads proofs from)
       go None is t = inr t
-      go (Some items) is t = edit_leads proofs rule proof (with_why_at items label why) (cited_by why)
+      go (Some items) is t = edit_leads proofs rule proof (altered items label (alteration.Why why)) (cited_by why)
           (λ other u. elim (reason_cites label why items other u) [ inl v ↦ inl v | inr v ↦ inr (cited_leads proofs rule proof items is other v) ]) from to t
 
   -- and all of it is led to, where there is such a line
@@ -208,10 +152,10 @@ module _ (proofs : ProofsOf) (rule proof label : List ℕ) (why : Option Why) wh
     only = λ m s. reason_leads (Rule rule) m s;
   }
     where
-      go : (found : Option (List Item)) → has_line_at label found ≡ true → (m : Cited) → Stands m (cited_by why) → Stands m (leads (with_reason_in proofs rule proof label why found) (Rule rule))
+      go : (found : Option (List Item)) → has_line_at label found ≡ true → (m : Cited) → Stands m (cited_by why) → Stands m (leads (with_change_in proofs rule proof (λ items. altered items label (alteration.Why why)) found) (Rule rule))
       go None is m s = absurd (false≢true is)
       go (Some items) is m s =
-          let edited : List Item = with_why_at items label why in
+          let edited : List Item = altered items label (alteration.Why why) in
           cited_leads (with_proof proofs rule proof edited) rule proof edited (proof_at-with_proof proofs rule proof edited) m (reason_there label why items is m s)
 
 -- ---- the rules that cite a rule

@@ -1,5 +1,5 @@
 -- A store keeps what it has to keep at every moment.
-use Rattle.std.proofs.Common.{◌≡◌, ◌∙◌, ap, sym, subst, ℕ, true, false, List, Option, Some, None}
+use Rattle.std.proofs.Common.{◌≡◌, ap, sym, subst, ℕ, false, List, Option, Some, None}
 use Rattle.std.specs.Prelude.{Result, Ok, Err, OnOk, OnErr}
 use Rattle.std.specs.FinMap as finite
 use Rattle.std.specs.Option.{option_map}
@@ -16,15 +16,15 @@ use Rattle.mu_proof.specs.declared.citations.Cited.TheVariants.{Rule}
 use Rattle.mu_flat.specs.Base.{is_base, base_table}
 use Rattle.mu_flat.specs.Circles.{first_circle}
 use Rattle.mu_flat.specs.CiterTables.{CitersOf, HasAllCiters, AddsCiter}
-use Rattle.mu_flat.specs.ProofTables.{ProofsOf, leads, has_line_at, proof_at, with_item_at, with_reason_at}
+use Rattle.mu_flat.specs.ProofTables.{ProofsOf, leads, proof_at, with_item_at, with_reason_at}
 use Rattle.mu_proof.specs.declared.items.Item.{Item}
-use Rattle.mu_flat.specs.Edits.{IsOpenLine, cite_refusal}
+use Rattle.mu_flat.specs.Edits.{IsOpen, missing_refusal, circle_refusal}
 use Rattle.mu_flat.specs.Entries.{IsPlain, IsTheory}
 use Rattle.mu_flat.specs.Stores.{IsKept, entries_of}
 use Rattle.mu_flat.specs.declared.stores.Store.TheInside.{Inside}
 use Rattle.mu_flat.proofs.CircleLemmas.{told_acyclic}
 use Rattle.mu_flat.proofs.Citing.{item_leads, reason_gains, all_citers_still}
-use Rattle.mu_flat.proofs.Refusals.{circle_alone, unrefused}
+use Rattle.mu_flat.proofs.Refusals.{line_there, no_circle}
 use Rattle.mu_flat.proofs.Validity.{valid_initial, none_cite, valid_theory, valid_constant, valid_rule, valid_proofs}
 
 pub kept_initial : IsKept (record { theories = finite.empty; constants = base_table; rules = finite.empty; proofs = finite.empty; citers = finite.empty })
@@ -54,23 +54,25 @@ module _ (inside : Inside) (kept : IsKept inside) where
   kept_fewer proofs fewer =
       kept_proofs proofs inside.citers (fewer_edges_acyclic (leads proofs) (leads inside.proofs) fewer kept.valid.acyclic) (λ rule from s. kept.citers rule from (fewer (Rule from) (Rule rule) s))
 
-  -- a line without a reason in one of the proofs
-  pub kept_line : (rule proof : List ℕ) (before : Option (List ℕ)) (line : Item) → IsOpenLine line → IsKept (record inside { proofs = with_item_at inside.proofs rule proof before line })
-  kept_line rule proof before line open_ = kept_fewer (with_item_at inside.proofs rule proof before line) (item_leads inside.proofs rule proof before line open_)
+  -- an item that is open in one of the proofs
+  pub kept_item : (rule proof block : List ℕ) (before : Option (List ℕ)) (new : Item) → IsOpen new → IsKept (record inside { proofs = with_item_at inside.proofs rule proof block before new })
+  kept_item rule proof block before new open_ = kept_fewer (with_item_at inside.proofs rule proof block before new) (item_leads inside.proofs rule proof block before new open_)
 
-  -- what is told of circles after another reason of a line tells whether the edit is refused, as there is no circle before
-  pub permitted : (rule proof label : List ℕ) (why : Why) (first : Option (List ℕ)) → has_line_at label (proof_at inside.proofs rule proof) ≡ true
-      → ((after : ProofsOf) → GainsAt (leads inside.proofs) (leads after) (Rule rule) (cited_by (Some why)) → first ≡ first_circle after) → cite_refusal (entries_of inside) rule proof label why ≡ option_map Circle first
-  permitted rule proof label why first there told =
-      circle_alone (entries_of inside) rule proof label why there
-      ∙ ap (option_map Circle) (sym (told (with_reason_at inside.proofs rule proof label (Some why)) (reason_gains inside.proofs rule proof label (Some why) there)))
+  module _ (rule proof label : List ℕ) (why : Why) (there : missing_refusal (entries_of inside) rule proof label ≡ None) where
+    abbrev after : ProofsOf
+    after = with_reason_at inside.proofs rule proof label (Some why)
 
-  -- a citation that is not refused
-  pub kept_cited : (rule proof label : List ℕ) (why : Why) (proofs : ProofsOf) (citers : CitersOf) → proofs ≡ with_reason_at inside.proofs rule proof label (Some why)
-      → has_line_at label (proof_at inside.proofs rule proof) ≡ true → cite_refusal (entries_of inside) rule proof label why ≡ None → AddsCiter inside.citers citers rule (Some why)
-      → IsKept (record inside { proofs = proofs; citers = citers })
-  kept_cited rule proof label why proofs citers is there free adds =
-      let after : ProofsOf = with_reason_at inside.proofs rule proof label (Some why) in
-      kept_proofs proofs citers
-      (subst (λ (all : ProofsOf). IsAcyclic (leads all)) (sym is) (told_acyclic after (unrefused (entries_of inside) rule proof label why there free)))
-      (subst (λ (all : ProofsOf). HasAllCiters citers all) (sym is) (all_citers_still inside.proofs after rule (Some why) inside.citers citers (reason_gains inside.proofs rule proof label (Some why) there) adds kept.citers))
+    gains : GainsAt (leads inside.proofs) (leads after) (Rule rule) (cited_by (Some why))
+    gains = reason_gains inside.proofs rule proof label (Some why) (line_there proof label (proof_at inside.proofs rule proof) there)
+
+    -- what is told of circles after another reason of a line that is there tells whether the edit is refused, as there is no circle before
+    pub permitted : (first : Option (List ℕ)) → ((after : ProofsOf) → GainsAt (leads inside.proofs) (leads after) (Rule rule) (cited_by (Some why)) → first ≡ first_circle after)
+        → circle_refusal (entries_of inside) rule proof label why ≡ option_map Circle first
+    permitted first told = ap (option_map Circle) (sym (told after gains))
+
+    -- a citation that is not refused
+    pub kept_cited : (proofs : ProofsOf) (citers : CitersOf) → proofs ≡ after → circle_refusal (entries_of inside) rule proof label why ≡ None → AddsCiter inside.citers citers rule (Some why)
+        → IsKept (record inside { proofs = proofs; citers = citers })
+    kept_cited proofs citers is free adds =
+        kept_proofs proofs citers (subst (λ (all : ProofsOf). IsAcyclic (leads all)) (sym is) (told_acyclic after (no_circle (first_circle after) free)))
+        (subst (λ (all : ProofsOf). HasAllCiters citers all) (sym is) (all_citers_still inside.proofs after rule (Some why) inside.citers citers gains adds kept.citers))

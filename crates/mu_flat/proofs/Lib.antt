@@ -2,6 +2,7 @@ pub mod CircleLemmas
 pub mod CitedMarks
 pub mod Citing
 pub mod Contexts
+pub mod EditCites
 pub mod FirstCircle
 pub mod Keeping
 pub mod ProofTables

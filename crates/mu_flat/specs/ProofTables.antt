@@ -8,7 +8,9 @@ use Rattle.mu_tree.specs.declared.why.Why.{Why}
 use Rattle.mu_graph.specs.Derivations.{Stands}
 use Rattle.mu_graph.specs.Names.{led_by, linked, leads_linked}
 use Rattle.mu_proof.specs.declared.items.Item.{Item}
-use Rattle.mu_proof.specs.Proofs.{is_line_label, inserted, with_why_at}
+use Rattle.mu_proof.specs.declared.alteration.Alteration.TheVariants as alteration
+use Rattle.mu_proof.specs.Edits.{inserted, altered}
+use Rattle.mu_proof.specs.Proofs.{is_line_label}
 use Rattle.mu_proof.specs.Citations.{cites}
 use Rattle.mu_proof.specs.declared.citations.Cited.{Cited}
 use Rattle.mu_proof.specs.declared.citations.Cited.TheVariants.{Rule, Morphism}
@@ -34,23 +36,22 @@ abbrev pub has_line_at : List ℕ → Option (List Item) → Bool
 has_line_at label None = false
 has_line_at label (Some items) = is_line_label items label
 
--- the proof that was found with another reason of a line, and the proofs as they were where none was
-abbrev pub with_reason_in : ProofsOf → List ℕ → List ℕ → List ℕ → Option Why → Option (List Item) → ProofsOf
-with_reason_in proofs rule proof label why None = proofs
-with_reason_in proofs rule proof label why (Some items) = with_proof proofs rule proof (with_why_at items label why)
+-- the proofs with the items of the proof that was found changed, and as they were where none was
+abbrev pub with_change_in : ProofsOf → List ℕ → List ℕ → (List Item → List Item) → Option (List Item) → ProofsOf
+with_change_in proofs rule proof change None = proofs
+with_change_in proofs rule proof change (Some items) = with_proof proofs rule proof (change items)
+
+-- the proofs with the items of one of them changed
+abbrev pub with_change_at : ProofsOf → List ℕ → List ℕ → (List Item → List Item) → ProofsOf
+with_change_at proofs rule proof change = with_change_in proofs rule proof change (proof_at proofs rule proof)
 
 -- the proofs with another reason of a line
 abbrev pub with_reason_at : ProofsOf → List ℕ → List ℕ → List ℕ → Option Why → ProofsOf
-with_reason_at proofs rule proof label why = with_reason_in proofs rule proof label why (proof_at proofs rule proof)
+with_reason_at proofs rule proof label why = with_change_at proofs rule proof (λ items. altered items label (alteration.Why why))
 
--- the proofs with an item put into the proof that was found, before an item of it or at its end, and as they were where none was
-abbrev pub with_item_in : ProofsOf → List ℕ → List ℕ → Option (List ℕ) → Item → Option (List Item) → ProofsOf
-with_item_in proofs rule proof before item None = proofs
-with_item_in proofs rule proof before item (Some items) = with_proof proofs rule proof (inserted items before item)
-
--- the proofs with an item put into one of them
-abbrev pub with_item_at : ProofsOf → List ℕ → List ℕ → Option (List ℕ) → Item → ProofsOf
-with_item_at proofs rule proof before item = with_item_in proofs rule proof before item (proof_at proofs rule proof)
+-- the proofs with an item put into a block of one of them, before an item of the block or at its end
+abbrev pub with_item_at : ProofsOf → List ℕ → List ℕ → List ℕ → Option (List ℕ) → Item → ProofsOf
+with_item_at proofs rule proof block before item = with_change_at proofs rule proof (λ items. inserted items block before item)
 
 -- what some proofs cite
 abbrev pub cited_in : MapOf (List Item) → List Cited

@@ -1,4 +1,4 @@
-ghost use Rattle.std.specs.Prelude.{◌≡◌, map, IfOk, OnOk, OnErr};
+ghost use Rattle.std.specs.Prelude.{◌≡◌, None, map, IfOk, OnOk, OnErr};
 ghost use Rattle.std.specs.FinMap as finite;
 ghost use Rattle.mu_proof.specs.declared.citations.Cited.TheVariants.{Rule};
 ghost use Rattle.mu_flat.specs.CiterTables.{with_citer, citing, all_citing, citing_within};
@@ -48,14 +48,21 @@ impl CiterTable {
         ensures ok { OnOk result (self.new ≡ with_citer self.old rule citer) }
         ensures err { OnErr result (self.new ≡ self.old) }
     {
-        let mut names = NameSet::new(alloc);
-        if !self.by_rule.swap(&rule, &mut names) {
-            names.add(citer)?;
-            return self.by_rule.put(rule, names);
+        match self.by_rule.get_mut(&rule) {
+            Some(names) => names.add(citer),
+            None => self.add_first(alloc, rule, citer),
         }
-        let result = names.add(citer);
-        self.by_rule.swap(&rule, &mut names);
-        result
+    }
+
+    /// Adds a rule that cites a rule, the first one that does.
+    fn add_first(&mut self, alloc: Global, rule: Name, citer: Name) -> Result<(), NoMemory>
+        requires { finite.get self.old rule ≡ None }
+        ensures ok { OnOk result (self.new ≡ with_citer self.old rule citer) }
+        ensures err { OnErr result (self.new ≡ self.old) }
+    {
+        let mut names = NameSet::new(alloc);
+        names.add(citer)?;
+        self.by_rule.put(rule, names)
     }
 }
 

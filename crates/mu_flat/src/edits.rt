@@ -1,4 +1,5 @@
-ghost use Rattle.std.specs.Prelude.{◌≡◌, IfOk};
+ghost use Rattle.std.specs.Prelude.{◌≡◌};
+ghost use Rattle.mu_tree.specs.declared.refusal.Refusal.{Refusal as RefusalOf};
 
 use mu_proof::ProofFault;
 use mu_tree::{CountWord, Name, NoMemory, Refusal};
@@ -35,15 +36,19 @@ impl From<ProofFault> for EditFault {
         match fault {
             ProofFault::Unknown(name) => EditFault::Refused(Refusal::Unknown(name)),
             ProofFault::Taken(name) => EditFault::Refused(Refusal::Taken(name)),
+            ProofFault::Boxes => EditFault::Refused(Refusal::TooMany(CountWord::Boxes)),
             ProofFault::Items => EditFault::Refused(Refusal::TooMany(CountWord::Items)),
             ProofFault::NoMemory => EditFault::NoMemory,
         }
     }
 }
 
-/// The fault that there is nothing of this name.
-pub(crate) fn unknown(alloc: Global, name: &Name) -> Result<EditFault, NoMemory>
-    ensures { IfOk result (λ fault. fault ≡ EditFault.Refused (Refusal.Unknown name.now)) }
+/// The fault that there is nothing of this name, or want of memory to say so.
+pub(crate) fn unknown(alloc: Global, name: &Name) -> EditFault
+    ensures { (refusal : RefusalOf) → result ≡ EditFault.Refused refusal → refusal ≡ Refusal.Unknown name.now }
 {
-    Ok(EditFault::Refused(Refusal::Unknown(name.copy(alloc)?)))
+    match name.copy(alloc) {
+        Ok(copy) => EditFault::Refused(Refusal::Unknown(copy.into_bytes())),
+        Err(error) => error.into(),
+    }
 }

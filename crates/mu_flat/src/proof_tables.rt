@@ -1,16 +1,18 @@
-ghost use Rattle.std.specs.Prelude.{◌≡◌, ◌++◌, true, false, None, Some, [], is_some, IfOk, OnOk, OnErr, IfErr};
-ghost use Rattle.std.specs.Option.{option_copied, unwrap_or};
+ghost use Rattle.std.specs.Prelude.{◌≡◌, ◌++◌, List, None, Some, [], true, IfOk, OnOk, OnErr, IfErr};
+ghost use Rattle.std.specs.Option.{option_copied};
 ghost use Rattle.std.specs.FinMap as finite;
-ghost use Rattle.mu_proof.specs.Items.{IsLine, label_of};
-ghost use Rattle.mu_proof.specs.Proofs.{is_line_label};
+ghost use Rattle.mu_proof.specs.declared.items.Item.{Item as ItemOf};
+ghost use Rattle.mu_proof.specs.Edits.{inserted, altered};
+ghost use Rattle.mu_proof.specs.Proofs.{line_fault, place_fault, insert_fault};
 ghost use Rattle.mu_tree.specs.declared.refusal.Refusal.{Refusal as RefusalOf};
-ghost use Rattle.mu_flat.specs.Edits.{edit_fault, insert_refusal};
-ghost use Rattle.mu_flat.specs.ProofTables.{proofs_of, proof_at, with_proof, with_item_at, leads, led_to, leads_within, cited_in, has_line_at, with_reason_at};
+ghost use Rattle.mu_proof.specs.declared.alteration.Alteration.TheVariants as alteration;
+ghost use Rattle.mu_flat.specs.Edits.{refusal_in};
+ghost use Rattle.mu_flat.specs.ProofTables.{proof_at, with_proof, with_item_at, leads, led_to, leads_within, cited_in, has_line_at, with_reason_at};
 
 use crate::cited_sets::CitedSet;
 use crate::edits::{EditFault, unknown};
 use mu_graph::Edges;
-use mu_proof::{Cited, Item, Proof, ProofFault, cites};
+use mu_proof::{Cited, Item, Proof, cites};
 use mu_tree::{Name, Names, NoMemory, Table, Why};
 use std::alloc::Global;
 use std::marker::Model;
@@ -81,122 +83,145 @@ impl ProofTable {
         ensures ok { OnOk result (self.new ≡ with_proof self.old rule proof []) }
         ensures err { OnErr result (self.new ≡ self.old) }
     {
-        let mut proofs = Table::new(alloc);
-        if !self.by_rule.swap(&rule, &mut proofs) {
-            proofs.put(proof, Proof::new(alloc))?;
-            return self.by_rule.put(rule, proofs);
+        match self.by_rule.get_mut(&rule) {
+            Some(proofs) => proofs.put(proof, Proof::new(alloc)),
+            None => self.add_first(alloc, rule, proof),
         }
-        let result = proofs.put(proof, Proof::new(alloc));
-        self.by_rule.swap(&rule, &mut proofs);
-        result
     }
 
-    /// Exchanges the proof of a rule and a name for another one, where there is such a proof, and says whether there
-    /// is. It takes no memory, so that a proof can be taken out, changed and put back.
-    pub fn swap(&mut self, alloc: Global, rule: &Name, proof: &Name, other: &mut Proof) -> bool
-        ensures found { result ≡ is_some (proof_at self.old rule.now proof.now) }
-        ensures value { other.new ≡ unwrap_or (proof_at self.old rule.now proof.now) other.old }
-        ensures there { result ≡ true → self.new ≡ with_proof self.old rule.now proof.now other.old }
-        ensures none { result ≡ false → self.new ≡ self.old }
+    /// Puts an empty proof there as that of a rule that has none.
+    fn add_first(&mut self, alloc: Global, rule: Name, proof: Name) -> Result<(), NoMemory>
+        requires { finite.get self.old rule ≡ None }
+        ensures ok { OnOk result (self.new ≡ with_proof self.old rule proof []) }
+        ensures err { OnErr result (self.new ≡ self.old) }
     {
         let mut proofs = Table::new(alloc);
-        if !self.by_rule.swap(rule, &mut proofs) {
-            return false;
-        }
-        let found = proofs.swap(proof, other);
-        self.by_rule.swap(rule, &mut proofs);
-        found
+        proofs.put(proof, Proof::new(alloc))?;
+        self.by_rule.put(rule, proofs)
     }
 
-    /// Puts a line into a block of a proof, right before an item of it or at its end.
+    /// Tells whether there is a place for an item in a block of a proof, right before an item of the block or at its
+    /// end, and whether the item brings labels that it may have.
     ///
     /// # Errors
     ///
-    /// `Refused` where there is no such proof, block or item, where an item of the proof has the label of the line, or
-    /// where the proof has as many items as it may have: the first of them that fits. `NoMemory` may come at any call.
-    /// Each leaves the proofs as they were.
-    pub(crate) fn insert_line(
-        &mut self,
+    /// `Refused` where there is no such proof, block or item, or where a label that the new item brings is taken: the
+    /// first of them that fits. `NoMemory` may come at any call.
+    pub fn permit_item(
+        &self,
         alloc: Global,
         rule: &Name,
         proof: &Name,
         block: &Name,
         before: Option<&Name>,
-        line: Item,
+        item: &Item,
     ) -> Result<(), EditFault>
-        requires { IsLine line }
-        ensures ok { OnOk result (insert_refusal proof.now block.now (option_copied before.entry) (label_of line) (proof_at self.old rule.now proof.now) ≡ None) }
-        ensures new { OnOk result (self.new ≡ with_item_at self.old rule.now proof.now (option_copied before.entry) line) }
-        ensures fault { IfErr result (λ fault. (refusal : RefusalOf) → fault ≡ EditFault.Refused refusal → insert_refusal proof.now block.now (option_copied before.entry) (label_of line) (proof_at self.old rule.now proof.now) ≡ Some refusal) }
-        ensures err { OnErr result (self.new ≡ self.old) }
-    {
-        if self.find(rule, proof).is_none() {
-            return Err(unknown(alloc, proof)?);
-        }
-        Ok(self.put_line(alloc, rule, proof, block, before, line)?)
-    }
-
-    /// Puts a line into a block of a proof that is there.
-    fn put_line(
-        &mut self,
-        alloc: Global,
-        rule: &Name,
-        proof: &Name,
-        block: &Name,
-        before: Option<&Name>,
-        line: Item,
-    ) -> Result<(), ProofFault>
-        requires line { IsLine line }
-        requires there { is_some (proof_at self.old rule.now proof.now) ≡ true }
-        ensures ok { OnOk result (insert_refusal proof.now block.now (option_copied before.entry) (label_of line) (proof_at self.old rule.now proof.now) ≡ None) }
-        ensures new { OnOk result (self.new ≡ with_item_at self.old rule.now proof.now (option_copied before.entry) line) }
-        ensures fault { IfErr result (λ fault. (refusal : RefusalOf) → edit_fault fault ≡ EditFault.Refused refusal → insert_refusal proof.now block.now (option_copied before.entry) (label_of line) (proof_at self.old rule.now proof.now) ≡ Some refusal) }
-        ensures err { OnErr result (self.new ≡ self.old) }
-    {
-        let mut edited = Proof::new(alloc);
-        self.swap(alloc, rule, proof, &mut edited);
-        let result = edited.insert(alloc, block, before, line);
-        self.swap(alloc, rule, proof, &mut edited);
-        result
-    }
-
-    /// Whether there is a proof of a rule and a name that has a line of a label.
-    pub(crate) fn has_line(&self, rule: &Name, proof: &Name, label: &Name) -> bool
-        ensures { result ≡ has_line_at label.now (proof_at self.now rule.now proof.now) }
+        ensures ok { OnOk result (refusal_in proof.now (λ items. place_fault items block.now (option_copied before.entry) item.now) (proof_at self.now rule.now proof.now) ≡ None) }
+        ensures fault { IfErr result (λ fault. (refusal : RefusalOf) → fault ≡ EditFault.Refused refusal → refusal_in proof.now (λ items. place_fault items block.now (option_copied before.entry) item.now) (proof_at self.now rule.now proof.now) ≡ Some refusal) }
     {
         match self.find(rule, proof) {
-            Some(found) => has_line(found.items(), label),
-            None => false,
+            Some(found) => Ok(found.test_place(alloc, block, before, item)?),
+            None => Err(unknown(alloc, proof)),
         }
     }
 
-    /// Sets the reason of a line of a proof, where there is such a line. It takes no memory.
-    pub(crate) fn set_reason(
-        &mut self,
+    /// Tells whether there is a line of a label in a proof, in whatever box.
+    ///
+    /// # Errors
+    ///
+    /// `Refused` where there is no such proof, and else where it has no such line. `NoMemory` may come at any call.
+    pub fn permit_line(
+        &self,
         alloc: Global,
         rule: &Name,
         proof: &Name,
         label: &Name,
-        why: Why,
-    )
+    ) -> Result<(), EditFault>
+        ensures ok { OnOk result (refusal_in proof.now (λ items. line_fault items label.now) (proof_at self.now rule.now proof.now) ≡ None) }
+        ensures fault { IfErr result (λ fault. (refusal : RefusalOf) → fault ≡ EditFault.Refused refusal → refusal_in proof.now (λ items. line_fault items label.now) (proof_at self.now rule.now proof.now) ≡ Some refusal) }
+    {
+        match self.find(rule, proof) {
+            Some(found) if found.has_line(label) => Ok(()),
+            Some(_) => Err(unknown(alloc, label)),
+            None => Err(unknown(alloc, proof)),
+        }
+    }
+
+    /// Puts an item into a block of a proof, right before an item of the block or at its end.
+    ///
+    /// # Errors
+    ///
+    /// `Refused` where there is no such proof, block or item, where a label that the new item brings is taken, where
+    /// boxes would be too deep in boxes, or where the proof would have more items than it may have: the first of them
+    /// that fits. `NoMemory` may come at any call. Each leaves the proofs as they were.
+    pub fn insert_item(
+        &mut self,
+        alloc: Global,
+        rule: &Name,
+        proof: &Name,
+        block: &Name,
+        before: Option<&Name>,
+        item: Item,
+    ) -> Result<(), EditFault>
+        ensures ok { OnOk result (refusal_in proof.now (λ items. insert_fault items block.now (option_copied before.entry) item) (proof_at self.old rule.now proof.now) ≡ None) }
+        ensures new { OnOk result (self.new ≡ with_item_at self.old rule.now proof.now block.now (option_copied before.entry) item) }
+        ensures fault { IfErr result (λ fault. (refusal : RefusalOf) → fault ≡ EditFault.Refused refusal → refusal_in proof.now (λ items. insert_fault items block.now (option_copied before.entry) item) (proof_at self.old rule.now proof.now) ≡ Some refusal) }
+        ensures err { OnErr result (self.new ≡ self.old) }
+    {
+        let Some(proofs) = self.by_rule.get_mut(rule) else {
+            drop(item);
+            return Err(unknown(alloc, proof));
+        };
+        insert_in(alloc, proofs, proof, block, before, item)
+    }
+
+    /// Sets the reason of a line that is there, in whatever box of a proof. It takes no memory.
+    pub(crate) fn set_reason(&mut self, rule: &Name, proof: &Name, label: &Name, why: Why)
         requires { has_line_at label.now (proof_at self.old rule.now proof.now) ≡ true }
         ensures { self.new ≡ with_reason_at self.old rule.now proof.now label.now (Some why) }
     {
-        let mut why = Some(why);
-        let mut edited = Proof::new(alloc);
-        self.swap(alloc, rule, proof, &mut edited);
-        edited.swap_why(label, &mut why);
-        self.swap(alloc, rule, proof, &mut edited);
+        match self.by_rule.get_mut(rule) {
+            Some(proofs) => set_reason_in(proofs, proof, label, why),
+            None => unreachable!(),
+        }
     }
 }
 
-/// Whether an item is a line of a label.
-fn has_line(items: &[Item], label: &Name) -> bool
-    ensures { result ≡ is_line_label items.now label.now }
+/// Puts an item into a block of one of the proofs of a rule.
+///
+/// An item that is not put in is dropped by a call: the drop of a variable is proved for each kind of item.
+fn insert_in(
+    alloc: Global,
+    proofs: &mut Table<Proof>,
+    proof: &Name,
+    block: &Name,
+    before: Option<&Name>,
+    item: Item,
+) -> Result<(), EditFault>
+    ensures ok { OnOk result (refusal_in proof.now (λ items. insert_fault items block.now (option_copied before.entry) item) (finite.get proofs.old proof.now) ≡ None) }
+    ensures new { OnOk result ((items : List ItemOf) → finite.get proofs.old proof.now ≡ Some items → proofs.new ≡ finite.insert proofs.old proof.now (inserted items block.now (option_copied before.entry) item)) }
+    ensures fault { IfErr result (λ fault. (refusal : RefusalOf) → fault ≡ EditFault.Refused refusal → refusal_in proof.now (λ items. insert_fault items block.now (option_copied before.entry) item) (finite.get proofs.old proof.now) ≡ Some refusal) }
+    ensures err { OnErr result (proofs.new ≡ proofs.old) }
 {
-    items
-        .iter()
-        .any(|item| item.label() == label && item.is_line())
+    let Some(found) = proofs.get_mut(proof) else {
+        drop(item);
+        return Err(unknown(alloc, proof));
+    };
+    found.insert(alloc, block, before, item)?;
+    Ok(())
+}
+
+/// Sets the reason of a line that is there in one of the proofs of a rule.
+fn set_reason_in(proofs: &mut Table<Proof>, proof: &Name, label: &Name, why: Why)
+    requires { has_line_at label.now (finite.get proofs.old proof.now) ≡ true }
+    ensures { (items : List ItemOf) → finite.get proofs.old proof.now ≡ Some items → proofs.new ≡ finite.insert proofs.old proof.now (altered items label.now (alteration.Why (Some why))) }
+{
+    match proofs.get_mut(proof) {
+        Some(found) => {
+            found.replace_why(label, Some(why));
+        }
+        None => unreachable!(),
+    }
 }
 
 impl Edges for ProofTable {

@@ -1,22 +1,21 @@
-ghost use Rattle.std.specs.Prelude.{◌≡◌, ◌&&◌, true, false, None, Some, [], IfOk, OnOk, OnErr, IfErr};
+ghost use Rattle.std.specs.Prelude.{◌≡◌, ◌&&◌, ℕ, List, false, None, Some, [], IfOk, OnOk, OnErr, IfErr};
 ghost use Rattle.std.specs.Option.{option_copied};
 ghost use Rattle.std.specs.FinMap as finite;
-ghost use Rattle.mu_proof.specs.Items.{IsLine, label_of};
 ghost use Rattle.mu_flat.specs.Base.{is_base as base_test, is_base_constant as base_constant_test};
 ghost use Rattle.mu_flat.specs.Entries.{Entries, initial, IsTheory, IsPlain, with_theory, with_constant, with_rule, with_items};
 ghost use Rattle.std.specs.Bool.{nat_eq};
 ghost use Rattle.std.specs.Cmp.Lexicographic.{pointwise};
 ghost use Rattle.mu_tree.specs.declared.refusal.Refusal.{Refusal as RefusalOf};
 ghost use Rattle.mu_flat.specs.CiterTables.{AddsCiter};
-ghost use Rattle.mu_flat.specs.ProofTables.{has_line_at, proof_at};
-ghost use Rattle.mu_flat.specs.Edits.{IsOpenLine, line_refusal, with_line, with_reason, cite_refusal, missing_name};
+ghost use Rattle.mu_flat.specs.ProofTables.{proof_at};
+ghost use Rattle.mu_flat.specs.Edits.{IsOpen, item_refusal, place_refusal, missing_refusal, circle_refusal, cite_refusal, with_item, with_reason};
 ghost use Rattle.mu_flat.specs.Circles.{CirclesAreExact};
 ghost use Rattle.mu_flat.specs.Contexts.{names_in};
 
 use crate::base::{base_name, base_table};
 use crate::circles::first_circle;
 use crate::citer_tables::CiterTable;
-use crate::edits::{EditFault, unknown};
+use crate::edits::EditFault;
 use crate::proof_tables::ProofTable;
 use mu_decl::{ConstDecl, Context, MorphMap, Own, Statement};
 use mu_proof::Item;
@@ -153,30 +152,72 @@ impl Store {
         self.proofs.add(alloc, rule, proof)
     }
 
-    /// Puts a line without a reason into a block of a proof, right before an item of it or at its end.
+    /// Tells whether there is a place for an item in a block of a proof, right before an item of the block or at its
+    /// end, and whether the item brings labels that it may have. It doesn't tell whether there is room for it.
     ///
     /// # Errors
     ///
-    /// `Refused` where there is no such proof, block or item, where an item of the proof has the label of the line, or
-    /// where the proof has as many items as it may have: the first of them that fits. `NoMemory` may come at any call.
-    /// Each leaves the store as it was.
-    pub fn insert_line(
+    /// `Refused` where there is no such proof, block or item, or where a label that the new item brings is taken: the
+    /// first of them that fits. `NoMemory` may come at any call.
+    pub fn permit_item(
+        &self,
+        alloc: Global,
+        rule: &Name,
+        proof: &Name,
+        block: &Name,
+        before: Option<&Name>,
+        item: &Item,
+    ) -> Result<(), EditFault>
+        ensures ok { OnOk result (place_refusal self.now rule.now proof.now block.now (option_copied before.entry) item.now ≡ None) }
+        ensures fault { IfErr result (λ fault. (refusal : RefusalOf) → fault ≡ EditFault.Refused refusal → place_refusal self.now rule.now proof.now block.now (option_copied before.entry) item.now ≡ Some refusal) }
+    {
+        self.proofs
+            .permit_item(alloc, rule, proof, block, before, item)
+    }
+
+    /// Puts an item that is still open, a line without a reason or a box without items, into a block of a proof, right
+    /// before an item of the block or at its end.
+    ///
+    /// # Errors
+    ///
+    /// `Refused` where there is no such proof, block or item, where a label that the new item brings is taken, where
+    /// boxes would be too deep in boxes, or where the proof would have more items than it may have: the first of them
+    /// that fits. `NoMemory` may come at any call. Each leaves the store as it was.
+    pub fn insert_item(
         &mut self,
         alloc: Global,
         rule: &Name,
         proof: &Name,
         block: &Name,
         before: Option<&Name>,
-        line: Item,
+        item: Item,
     ) -> Result<(), EditFault>
-        requires { IsOpenLine line }
-        ensures ok { OnOk result (line_refusal self.old rule.now proof.now block.now (option_copied before.entry) (label_of line) ≡ None) }
-        ensures new { OnOk result (self.new ≡ with_line self.old rule.now proof.now (option_copied before.entry) line) }
-        ensures fault { IfErr result (λ fault. (refusal : RefusalOf) → fault ≡ EditFault.Refused refusal → line_refusal self.old rule.now proof.now block.now (option_copied before.entry) (label_of line) ≡ Some refusal) }
+        requires { IsOpen item }
+        ensures ok { OnOk result (item_refusal self.old rule.now proof.now block.now (option_copied before.entry) item ≡ None) }
+        ensures new { OnOk result (self.new ≡ with_item self.old rule.now proof.now block.now (option_copied before.entry) item) }
+        ensures fault { IfErr result (λ fault. (refusal : RefusalOf) → fault ≡ EditFault.Refused refusal → item_refusal self.old rule.now proof.now block.now (option_copied before.entry) item ≡ Some refusal) }
         ensures err { OnErr result (self.new ≡ self.old) }
     {
         self.proofs
-            .insert_line(alloc, rule, proof, block, before, line)
+            .insert_item(alloc, rule, proof, block, before, item)
+    }
+
+    /// Tells whether there is a line of a label in a proof, in whatever box.
+    ///
+    /// # Errors
+    ///
+    /// `Refused` where there is no such proof, and else where it has no such line. `NoMemory` may come at any call.
+    pub fn permit_line(
+        &self,
+        alloc: Global,
+        rule: &Name,
+        proof: &Name,
+        label: &Name,
+    ) -> Result<(), EditFault>
+        ensures ok { OnOk result (missing_refusal self.now rule.now proof.now label.now ≡ None) }
+        ensures fault { IfErr result (λ fault. (refusal : RefusalOf) → fault ≡ EditFault.Refused refusal → missing_refusal self.now rule.now proof.now label.now ≡ Some refusal) }
+    {
+        self.proofs.permit_line(alloc, rule, proof, label)
     }
 
     /// Cites a line of a proof to a reason, in place of the one that it had.
@@ -201,49 +242,23 @@ impl Store {
         ensures err { OnErr result (self.new ≡ self.old) }
         ensures law { CirclesAreExact }
     {
-        self.permit(alloc, rule, proof, label, &why)?;
+        self.permit_line(alloc, rule, proof, label)?;
+        self.permit_reason(alloc, rule, &why)?;
         add_citer(alloc, &mut self.citers, rule, &why)?;
-        self.proofs.set_reason(alloc, rule, proof, label, why);
+        self.proofs.set_reason(rule, proof, label, why);
         Ok(())
     }
 
-    /// Whether a line of a proof may be cited to a reason, with the refusal where it may not.
-    fn permit(
-        &self,
-        alloc: Global,
-        rule: &Name,
-        proof: &Name,
-        label: &Name,
-        why: &Why,
-    ) -> Result<(), EditFault>
-        ensures line { OnOk result (has_line_at label.now (proof_at self.now.proofs rule.now proof.now) ≡ true) }
-        ensures ok { OnOk result (cite_refusal self.now rule.now proof.now label.now why.now ≡ None) }
-        ensures fault { IfErr result (λ fault. (refusal : RefusalOf) → fault ≡ EditFault.Refused refusal → cite_refusal self.now rule.now proof.now label.now why.now ≡ Some refusal) }
+    /// Tells whether no rule leads back to itself where a line of some proof of a rule gets a reason.
+    fn permit_reason(&self, alloc: Global, rule: &Name, why: &Why) -> Result<(), EditFault>
+        ensures ok { OnOk result ((proof label : List ℕ) → missing_refusal self.now rule.now proof label ≡ None → circle_refusal self.now rule.now proof label why.now ≡ None) }
+        ensures fault { IfErr result (λ fault. (refusal : RefusalOf) → fault ≡ EditFault.Refused refusal → (proof label : List ℕ) → missing_refusal self.now rule.now proof label ≡ None → circle_refusal self.now rule.now proof label why.now ≡ Some refusal) }
     {
-        if !self.proofs.has_line(rule, proof, label) {
-            return Err(missing(alloc, &self.proofs, rule, proof, label)?);
-        }
         match first_circle(alloc, &self.proofs, &self.citers, rule, why)? {
-            Some(name) => Err(EditFault::Refused(Refusal::Circle(name))),
+            Some(name) => Err(EditFault::Refused(Refusal::Circle(name.into_bytes()))),
             None => Ok(()),
         }
     }
-}
-
-/// The fault that a proof has no line of this label, or isn't there.
-fn missing(
-    alloc: Global,
-    proofs: &ProofTable,
-    rule: &Name,
-    proof: &Name,
-    label: &Name,
-) -> Result<EditFault, NoMemory>
-    ensures { IfOk result (λ fault. fault ≡ EditFault.Refused (Refusal.Unknown (missing_name proofs.now rule.now proof.now label.now))) }
-{
-    if proofs.find(rule, proof).is_some() {
-        return unknown(alloc, label);
-    }
-    unknown(alloc, proof)
 }
 
 /// Adds a rule as one that cites the rule that a reason cites, where it cites one.

@@ -1,8 +1,10 @@
 pub mod Agreement
+pub mod Blocks
 pub mod Claims
 pub mod Declarations
 pub mod Excesses
 pub mod Groups
+pub mod Heads
 pub mod Lexemes
 pub mod Limits
 pub mod Machine

@@ -1,6 +1,9 @@
 pub mod Again
+pub mod BlocksBack
 pub mod Canon
 pub mod ClaimsBack
+pub mod GroupsBack
+pub mod HeadsBack
 pub mod Lines
 pub mod NamesBack
 pub mod Parentheses

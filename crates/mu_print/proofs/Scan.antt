@@ -11,11 +11,12 @@ use Rattle.mu_grammar.specs.Tokens.{starts_letter, starts_with, run_length, dots
 use Rattle.mu_grammar.specs.declared.ops.Op.{Op}
 use Rattle.mu_grammar.specs.declared.symbol.Word.{Word}
 use Rattle.mu_grammar.specs.declared.symbol.Word.TheVariants.{Plain, Dotted, True, Meta, Place}
-use Rattle.mu_grammar.specs.declared.symbol.Mark.TheVariants.{And, Or, Not, Iff, Imp, Eq, Colon, Open, Close, OpenBrace, CloseBrace, Comma, Dot}
+use Rattle.mu_grammar.specs.declared.symbol.Mark.TheVariants.{And, Or, Not, Iff, Imp, Eq, Colon, Open, Close, OpenBrace, CloseBrace, Comma, Dot, Bar}
 use Rattle.mu_grammar.specs.Lexemes.{Lexeme, word, mark, item, items_of, item_of, sort_in, word_in}
 use Rattle.mu_grammar.specs.Ops.{binary}
 use Rattle.mu_grammar.specs.Spellings.{word_text, lexeme_text}
 use Rattle.mu_grammar.specs.Writings.{Writing, Writings, leaf, apply, bind, paren, neg, bin, one, more, opener, closer, tokens, tokens_of}
+use Rattle.mu_grammar.proofs.Together.{neither}
 use Rattle.mu_print.specs.Canonical.{text_of, texts_of}
 use Rattle.mu_print.specs.Sound.{SoundName, SoundMeta, SoundPlace, Sound, Sounds, SoundsAll}
 
@@ -29,10 +30,10 @@ scan skip [] = []
 scan (suc skip) (byte ∷ bytes) = scan skip bytes
 scan zero (byte ∷ bytes) = if is_blank byte then scan 0 bytes else (let first = first_token byte bytes in piece (byte ∷ take first.1 bytes) first.0 ∷ scan first.1 bytes)
 
--- what follows goes on with no word
+-- what follows goes on with no word, and with no bar
 abbrev pub Stop : List ℕ → Type 0
 Stop [] = Unit {0}
-Stop (byte ∷ bytes) = (is_name_byte byte ≡ false) × ((byte == 46 && starts_letter bytes) ≡ false)
+Stop (byte ∷ bytes) = ((is_name_byte byte || byte == 45) ≡ false) × ((byte == 46 && starts_letter bytes) ≡ false)
 
 pub take_front : {A : Type 0} (xs ys : List A) → take (length xs) (xs ++ ys) ≡ xs
 take_front [] ys = refl
@@ -58,17 +59,24 @@ no_equals byte e = grind (arith, nat_tests)
 no_digit : (byte : ℕ) → is_name_byte byte ≡ false → is_digit byte ≡ false
 no_digit byte e = grind (arith, nat_tests)
 
+no_name_byte : (byte : ℕ) (r : List ℕ) → Stop (byte ∷ r) → is_name_byte byte ≡ false
+no_name_byte byte r s = (neither (is_name_byte byte) (byte == 45) s.0).0
+
+no_dash : (r : List ℕ) → Stop r → starts_with 45 r ≡ false
+no_dash [] s = refl
+no_dash (byte ∷ r) s = (neither (is_name_byte byte) (byte == 45) s.0).1
+
 pub run_stop : (r : List ℕ) → Stop r → run_length r ≡ 0
 run_stop [] s = refl
-run_stop (byte ∷ r) s = rw (s.0, s.1) refl
+run_stop (byte ∷ r) s = rw (no_name_byte byte r s, s.1) refl
 
 front_stop : (r : List ℕ) → Stop r → prefix_len is_name_byte r ≡ 0
 front_stop [] s = refl
-front_stop (byte ∷ r) s = rw s.0 refl
+front_stop (byte ∷ r) s = rw (no_name_byte byte r s) refl
 
 digits_stop : (r : List ℕ) → Stop r → prefix_len is_digit r ≡ 0
 digits_stop [] s = refl
-digits_stop (byte ∷ r) s = rw (no_digit byte s.0) refl
+digits_stop (byte ∷ r) s = rw (no_digit byte (no_name_byte byte r s)) refl
 
 chosen : (b : Bool) (n m : ℕ) → (if b then suc n else 0) ≡ suc m → (b ≡ true) × (n ≡ m)
 chosen true n m e = (refl, (let i : n ≡ m = omega arith in i))
@@ -222,6 +230,10 @@ pub colon_run : (r : List ℕ) → starts_with 61 r ≡ false → scan 0 (58 ∷
 unfolding first_token
 colon_run r e = rw e refl
 
+pub bar_run : (r : List ℕ) → Stop r → scan 0 (124 ∷ r) ≡ mark Bar ∷ scan 0 r
+unfolding first_token
+bar_run r s = rw (no_dash r s) refl
+
 operator_run : (item : Lexeme) (o : Op) (r : List ℕ) → binary item ≡ Some o → scan 0 (32 ∷ (lexeme_text item ++ (32 ∷ r))) ≡ item ∷ scan 0 r
 unfolding first_token
 operator_run (mark Iff) o r e = refl
@@ -244,7 +256,7 @@ word_starts True [] r h = absurd h
 word_starts True (b ∷ x) r h = no_equals b h.0
 
 -- no text begins with an equals sign
-starts : (w : Writing) (r : List ℕ) → Sounds w → starts_with 61 (text_of w ++ r) ≡ false
+pub starts : (w : Writing) (r : List ℕ) → Sounds w → starts_with 61 (text_of w ++ r) ≡ false
 starts (leaf w x) r h = word_starts w x r h
 starts (apply w x ws) r h = ap (starts_with 61) (append_assoc (word_text w x) (lexeme_text (opener w) ++ (texts_of ws ++ lexeme_text (closer w))) r) ∙ word_starts w x _ h.0
 starts (bind w x v d b) r h = ap (starts_with 61) (append_assoc (word_text w x) (123 ∷ (v ++ (58 ∷ (text_of d ++ (46 ∷ 32 ∷ (text_of b ++ (125 ∷ []))))))) r) ∙ word_starts w x _ h.0

@@ -1,5 +1,5 @@
 -- The canonical writing of a tree: operators where they can stand, and parentheses where the levels need them.
-use Rattle.std.specs.Prelude.{ℕ, Bool, true, false, List, [], ◌∷◌, ◌++◌, Option, Some, None, if◌then◌else◌, nat_le}
+use Rattle.std.specs.Prelude.{ℕ, Bool, true, false, List, [], ◌∷◌, ◌++◌, Option, Some, None, if◌then◌else◌, nat_le, codes}
 use Rattle.mu_tree.specs.declared.trees.Tree.{Tree}
 use Rattle.mu_tree.specs.declared.trees.Tree.TheOpen.{Tree-F, App, Meta, Bind}
 use Rattle.mu_tree.specs.declared.trees.Tree.TheFolds.{fold-Tree}
@@ -56,14 +56,14 @@ abbrev mutual
   pub text_of : Writing → List ℕ
   text_of (leaf w text) = word_text w text
   text_of (apply w text ws) = word_text w text ++ (lexeme_text (opener w) ++ (texts_of ws ++ lexeme_text (closer w)))
-  text_of (bind w text v d b) = word_text w text ++ (123 ∷ (v ++ (58 ∷ (text_of d ++ (46 ∷ 32 ∷ (text_of b ++ (125 ∷ [])))))))
-  text_of (paren w) = 40 ∷ (text_of w ++ (41 ∷ []))
-  text_of (neg w) = 110 ∷ 111 ∷ 116 ∷ 32 ∷ text_of w
-  text_of (bin item o a b) = text_of a ++ (32 ∷ (lexeme_text item ++ (32 ∷ text_of b)))
+  text_of (bind w text v d b) = word_text w text ++ (codes "{" ++ (v ++ (codes ":" ++ (text_of d ++ (codes ". " ++ (text_of b ++ codes "}"))))))
+  text_of (paren w) = codes "(" ++ (text_of w ++ codes ")")
+  text_of (neg w) = codes "not " ++ text_of w
+  text_of (bin item o a b) = text_of a ++ (codes " " ++ (lexeme_text item ++ (codes " " ++ text_of b)))
 
   pub texts_of : Writings → List ℕ
   texts_of (one w) = text_of w
-  texts_of (more w ws) = text_of w ++ (44 ∷ 32 ∷ texts_of ws)
+  texts_of (more w ws) = text_of w ++ (codes ", " ++ texts_of ws)
 
 -- the canonical text of a tree
 unfoldable pub tree_text : Tree → List ℕ

@@ -1,7 +1,8 @@
--- The canonical text of claims, of what a line holds by, and of declarations.
+-- The canonical text of claims, of what a line holds by, of declarations and of heads.
 use Rattle.std.specs.Prelude.{ℕ, List, [], ◌∷◌, ◌++◌, Option, Some, None, codes, map}
 use Rattle.std.specs.Fmt.{decimal}
 use Rattle.std.specs.List.{flat_map}
+use Rattle.std.specs.Option.{option_map_or}
 use Rattle.mu_tree.specs.declared.claim.Kind.{Kind}
 use Rattle.mu_tree.specs.declared.claim.Kind.TheVariants as kind
 use Rattle.mu_tree.specs.declared.claim.Shape.{Shape}
@@ -10,6 +11,7 @@ use Rattle.mu_tree.specs.declared.claim.TypedVar.{TypedVar}
 use Rattle.mu_tree.specs.declared.claim.Hyp.{Hyp}
 use Rattle.mu_tree.specs.declared.claim.Hyp.TheVariants as hyp
 use Rattle.mu_tree.specs.declared.claim.Claim.{Claim}
+use Rattle.mu_tree.specs.declared.head.OpHead.{OpHead}
 use Rattle.mu_tree.specs.declared.trees.Tree.{Tree}
 use Rattle.mu_tree.specs.declared.why.Ref.{Ref}
 use Rattle.mu_tree.specs.declared.why.Ref.TheVariants as ref
@@ -61,8 +63,7 @@ abstraction_text given = codes "?" ++ (given.meta ++ (surrounded (codes "[") (co
 
 -- the morphism that a rule is translated by
 abbrev pub via_text : Option (List ℕ) → List ℕ
-via_text None = []
-via_text (Some name) = codes " via " ++ name
+via_text via = option_map_or (behind (codes " via ")) via []
 
 -- what a line holds by
 unfoldable pub reason_text : Why → List ℕ
@@ -86,3 +87,20 @@ shape_text (shape.Binder body) = codes "{" ++ (kind_text body ++ codes "}")
 -- a declaration: `c -> k`, `c(k, k) -> k` or `c{k} -> k`
 unfoldable pub declaration_text : List ℕ → Shape → Kind → List ℕ
 declaration_text name shape result = name ++ (shape_text shape ++ (codes " -> " ++ kind_text result))
+
+-- the inputs of a head, in parentheses
+abbrev pub inputs_text : List TypedVar → List ℕ
+inputs_text vars = codes "(" ++ (between (codes ", ") (map variable_text vars) ++ codes ")")
+
+-- the old and the new state of an operation
+abbrev pub states_text : Option (List ℕ × List ℕ) → List ℕ
+states_text None = []
+states_text (Some states) = codes " old " ++ (states.0 ++ (codes " new " ++ states.1))
+
+-- the result, where there is one
+abbrev pub result_text : Option TypedVar → List ℕ
+result_text result = option_map_or (λ v. codes " result " ++ variable_text v) result []
+
+-- a head: `f(x:T, y:U) old s new t result r:V`
+unfoldable pub head_text : List ℕ → OpHead → List ℕ
+head_text name head = name ++ (inputs_text head.inputs ++ (states_text head.states ++ result_text head.result))

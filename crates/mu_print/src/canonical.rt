@@ -158,8 +158,8 @@ fn application_level(name: &[u8], arguments: &[Tree]) -> u8
     }
 }
 
-/// The bytes of a mark.
-fn mark_text(mark: Mark) -> &'static [u8]
+/// The bytes of a mark. A token that fits nothing has no bytes of its own.
+pub fn mark_text(mark: Mark) -> &'static [u8]
     ensures { result.now ≡ mark_spelling mark }
 {
     match mark {

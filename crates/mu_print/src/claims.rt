@@ -65,9 +65,13 @@ fn hypothesis(out: &mut Vec<u8>, hypothesis: &Hyp) -> Result<(), AllocError>
     }
 }
 
-/// Adds typed variables, the bar and trees: what a sequent or a box begins with.
+/// Adds typed variables, the bar and trees at the end: the canonical text of what a sequent or a box begins with.
+///
+/// # Errors
+///
+/// `AllocError`, with some of the text added.
 #[tactic(auto, using(std::proofs::Common::append_assoc), unfolding(crate::specs::Texts::block_text))]
-fn block(out: &mut Vec<u8>, vars: &[TypedVar], trees: &[Tree]) -> Result<(), AllocError>
+pub fn block(out: &mut Vec<u8>, vars: &[TypedVar], trees: &[Tree]) -> Result<(), AllocError>
     ensures { OnOk result (out.new.items ≡ out.old.items ++ block_text vars.now trees.now) }
 {
     surround(out, b"", b", ", b" ", vars)?;

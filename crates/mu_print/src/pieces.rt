@@ -1,6 +1,6 @@
 ghost use Rattle.std.specs.Prelude.{◌≡◌, ◌++◌, ℕ, List, OnOk, map};
 ghost use Rattle.std.specs.List.{flat_map};
-ghost use Rattle.mu_print.specs.Texts.{behind, surrounded};
+ghost use Rattle.mu_print.specs.Texts.{behind, between, surrounded};
 
 use std::alloc::AllocError;
 
@@ -21,7 +21,6 @@ pub(crate) fn add(out: &mut Vec<u8>, bytes: &[u8]) -> Result<(), AllocError>
 }
 
 /// Adds the items with the separator between each two, behind the one text and before the other; nothing where there are none.
-#[tactic(auto, unfolding(crate::specs::Texts::between))]
 pub(crate) fn surround<T: Printed>(
     out: &mut Vec<u8>,
     before: &[u8],
@@ -34,11 +33,28 @@ pub(crate) fn surround<T: Printed>(
 {
     match items {
         [] => Ok(()),
-        [first, rest @ ..] => {
+        _ => {
             add(out, before)?;
-            first.print(out)?;
-            add_each(out, separator, rest)?;
+            separate(out, separator, items)?;
             add(out, after)
+        }
+    }
+}
+
+/// Adds the items with the separator between each two.
+#[tactic(auto, unfolding(crate::specs::Texts::between))]
+pub(crate) fn separate<T: Printed>(
+    out: &mut Vec<u8>,
+    separator: &[u8],
+    items: &[T],
+) -> Result<(), AllocError>
+    ensures { OnOk result (out.new.items ≡ out.old.items ++ between separator.now (map T.text items.now)) }
+{
+    match items {
+        [] => Ok(()),
+        [first, rest @ ..] => {
+            first.print(out)?;
+            add_each(out, separator, rest)
         }
     }
 }

@@ -1,12 +1,13 @@
 ghost use Rattle.std.specs.Prelude.{◌≡◌, IfOk};
 ghost use Rattle.mu_print.specs.Canonical.{tree_text};
-ghost use Rattle.mu_print.specs.Laws.{ClaimsReadBack, ParenthesesAreNeeded, ReasonsReadBack, TreesReadBack};
-ghost use Rattle.mu_print.specs.Texts.{claim_text, reason_text};
+ghost use Rattle.mu_print.specs.Laws.{BlocksReadBack, ClaimsReadBack, HeadsReadBack, ParenthesesAreNeeded, ReasonsReadBack, TreesReadBack};
+ghost use Rattle.mu_print.specs.Texts.{block_text, claim_text, head_text, reason_text};
 
 use crate::canonical::tree;
-use crate::claims::claim;
+use crate::claims::{block, claim};
+use crate::heads::head;
 use crate::reasons::reason;
-use mu_tree::{Bytes, Claim, NoMemory, Tree, Why};
+use mu_tree::{Bytes, Claim, Name, NoMemory, OpHead, Tree, Trees, TypedVars, Why};
 use std::alloc::Global;
 
 /// The canonical text of a tree. A tree that some text reads as is read back from it, and no pair of parentheses in it can be left out.
@@ -52,5 +53,36 @@ pub fn print_why(alloc: Global, why: &Why) -> Result<Bytes, NoMemory>
 {
     let mut text = Vec::new(alloc);
     reason(&mut text, why)?;
+    Ok(Bytes::from_vec(text))
+}
+
+/// The canonical text of what a box begins with: its variables, the bar and its assumptions. What some text reads as is read back
+/// from it.
+///
+/// # Errors
+///
+/// `NoMemory`.
+#[tactic(auto, using(crate::proofs::BlocksBack::blocks_read_back))]
+pub fn print_box(alloc: Global, vars: &TypedVars, assumptions: &Trees) -> Result<Bytes, NoMemory>
+    ensures value { IfOk result (λ text. text ≡ block_text vars.now assumptions.now) }
+    ensures reads_back { BlocksReadBack }
+{
+    let mut text = Vec::new(alloc);
+    block(&mut text, vars.items(), assumptions.as_slice())?;
+    Ok(Bytes::from_vec(text))
+}
+
+/// The canonical text of a head of an operation or a function. A head that some text reads as is read back from it.
+///
+/// # Errors
+///
+/// `NoMemory`.
+#[tactic(auto, using(crate::proofs::HeadsBack::heads_read_back))]
+pub fn print_head(alloc: Global, name: &Name, printed: &OpHead) -> Result<Bytes, NoMemory>
+    ensures value { IfOk result (λ text. text ≡ head_text name.now printed.now) }
+    ensures reads_back { HeadsReadBack }
+{
+    let mut text = Vec::new(alloc);
+    head(&mut text, name, printed)?;
     Ok(Bytes::from_vec(text))
 }

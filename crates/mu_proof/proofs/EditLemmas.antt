@@ -1,254 +1,263 @@
--- The items of a proof after an edit.
-use Rattle.std.proofs.Common.{arith, rules, ◌≡◌, refl, sym, ◌∙◌, ap, subst, ◌<◌, ◌≤◌, ◌+◌, cond, List, [], ◌∷◌, ℕ, suc, Some, None, Bool, true, false, length, map, set, get_or, add-one}
-use Rattle.std.specs.Prelude.{Option, not, ◌&&◌, ◌||◌, nat_lt}
+-- An edit changes one item of a proof, what is around it and nothing else.
+use Rattle.std.proofs.Common.{arith, ◌≡◌, refl, sym, ◌∙◌, ap, ◌+◌, suc, cond, List, [], ◌∷◌, ◌++◌, ℕ, Bool, true, false, map, set, take, drop, Some, count_by}
+use Rattle.std.specs.Prelude.{Option, not, ◌&&◌, ◌||◌}
 use Rattle.std.specs.Bool.{nat_eq}
-use Rattle.std.specs.Option.{option_or}
-use Rattle.std.specs.List.{All, AllByRecursion, list_any, position, position_or_len, insert, IsDistinct}
-use Rattle.std.specs.List.Sorted.{IsPermutation}
-use Rattle.std.specs.Cmp.Lexicographic.{pointwise, nat_list_eq_equiv}
-use Rattle.std.proofs.lemmas.Bool.Decides.{nat_tests}
-use Rattle.std.proofs.lemmas.List.Edits.{length-insert}
-use Rattle.std.proofs.lemmas.List.Sorted.{IsPermutation-insert, IsPermutation-map, All-permutation, list_any-IsPermutation}
-use Rattle.std.proofs.lemmas.Map.Keys.{IsDistinct-cons, IsDistinct-head, IsDistinct-tail, IsDistinct-IsPermutation}
-use Rattle.std.proofs.lemmas.List.Elements.{All-cons, All-map}
-use Rattle.std.proofs.lemmas.List.{length-map, set-get_or}
-use Rattle.mu_tree.specs.declared.why.Why.{Why}
+use Rattle.std.specs.List.{AllByRecursion, list_any, find, filter, remove, slice_get}
+use Rattle.std.specs.Cmp.Lexicographic.{pointwise}
+use Rattle.std.proofs.lemmas.List.Elements.{filter-append}
+use Rattle.std.proofs.lemmas.Bool.{or_parts, or_from, cond-true, cond-false}
+use Rattle.std.proofs.lemmas.List.{map-append}
+use Rattle.std.proofs.lemmas.List.Concat.{flat_map-append}
+use Rattle.std.proofs.lemmas.List.Folds.{list_any-append, find-append}
 use Rattle.mu_tree.specs.declared.trees.Tree.{Tree}
 use Rattle.mu_tree.specs.declared.claim.TypedVar.{TypedVar}
-use Rattle.mu_proof.specs.declared.fault.ProofFault.{ProofFault}
+use Rattle.mu_tree.specs.declared.why.Why.{Why}
+use Rattle.mu_proof.specs.declared.alteration.Alteration.{Alteration}
 use Rattle.mu_proof.specs.declared.items.Item.{Item}
-use Rattle.mu_proof.specs.declared.items.Item.TheOpen.{Item-F, Line, Block}
-use Rattle.mu_proof.specs.declared.items.Item.TheFolds.{map-Item, fold-roll-Item, fold_out-Item}
 use Rattle.mu_proof.specs.declared.items.Item.TheVariants as item
-use Rattle.mu_proof.specs.declared.items.Item.TheViews.{out-Item, roll-Item, out-roll-Item, roll-out-Item}
-use Rattle.mu_proof.specs.Items.{label_of, is_line, IsLine, has_label, is_line_at, label_step, line_step, with_why, why_step, why_of, reason_step, rejustified}
-use Rattle.mu_proof.specs.Proofs.{IsProof, is_label, is_free, root, with_why_at, unless, insert_fault, label_fault, room_fault}
+use Rattle.mu_proof.specs.declared.items.Item.TheViews.{out-Item}
+use Rattle.mu_proof.specs.Items.{label_of, has_label, is_line, is_box_at, all_in, all_items}
+use Rattle.mu_proof.specs.Edits.{edited_item, with_item, putting, dropping, removed, altered_step, altered_item, altering, altered}
+use Rattle.mu_proof.proofs.CountLemmas.{count_by-cons, count_by-append, none_any, any_some, split_at, set_at, any_weaker}
+use Rattle.mu_proof.proofs.ItemEquations.{label_of-block, is_line-line, all_in-line, all_in-block, edited_item-line, edited_item-block}
+use Rattle.mu_proof.proofs.ItemInduction.{item_ind, item_cases}
+use Rattle.mu_proof.proofs.WalkLemmas.{all_in-first, find_any, not_some, none_or, some_or}
 
-any_step : (b : Bool) (n m : ℕ) (t : Bool) → nat_lt n m ≡ t → nat_lt (cond (not b) (1 + n) 0) (1 + m) ≡ (b || t)
-any_step true n m t e = grind (arith, nat_tests)
-any_step false n m t e = grind (arith, nat_tests)
+-- an item among those that are not counted doesn't pass itself
+pub own_fails : (q : Item → Bool) (i : Item) → count_by q (all_in i) ≡ 0 → q i ≡ false
+own_fails q i none = (or_parts (q i) (list_any q (all_in-first i).0) (ap (list_any q) (sym (all_in-first i).1) ∙ none_any q (all_in i) none)).0
 
--- a position is within the list exactly where an item passes
-any_within : {X : Type 0} (p : X → Bool) → (xs : List X) → nat_lt (position_or_len p xs) (length xs) ≡ list_any p xs
-any_within p [] = refl
-any_within p (x ∷ xs) = search (rules, add-one, any_step (p x) _ _ _ (any_within p xs))
+-- and one that passes is among itself and those in it
+pub own_any : (q : Item → Bool) (i : Item) → q i ≡ true → list_any q (all_in i) ≡ true
+own_any q i passes = ap (list_any q) (all_in-first i).1 ∙ ap (λ b. b || list_any q (all_in-first i).0) passes
 
--- no item passes where none is found
-pub none_passes : {X : Type 0} (p : X → Bool) (xs : List X) → position p xs ≡ None → list_any p xs ≡ false
-none_passes p xs e = sym (any_within p xs) ∙ by_test _ _ e
-  where
-    by_test : (b : Bool) (n : ℕ) → cond b (Some n) None ≡ None → b ≡ false
-    by_test true n e = cc
-    by_test false n e = refl
+module _ (q : Item → Bool) (f : Item → Item) (still : (i : Item) → count_by q (all_in i) ≡ 0 → f i ≡ i) where
+  -- where none of the items is meant, all stay
+  pub still_all : (items : List Item) → count_by q (all_items items) ≡ 0 → map f items ≡ items
+  still_all [] none = refl
+  still_all (i ∷ items) none = let parts = count_by-append q (all_in i) (all_items items) in rw (still i (omega arith), still_all items (omega arith)) refl
 
--- an item passes where one is found
-pub one_passes : {X : Type 0} (p : X → Bool) (xs : List X) (at : ℕ) → position p xs ≡ Some at → list_any p xs ≡ true
-one_passes p xs at e = sym (any_within p xs) ∙ by_test _ _ e
-  where
-    by_test : (b : Bool) (n : ℕ) → cond b (Some n) None ≡ Some at → b ≡ true
-    by_test true n e = refl
-    by_test false n e = cc
+  module _ (items : List Item) (at : ℕ) (old : Item) (is : slice_get items at ≡ Some old) (has : list_any q (all_in old) ≡ true) (one : count_by q (all_items items) ≡ 1) where
+    -- where one is meant, and is in this item, none is in the others
+    pub alone : (count_by q (all_items (take at items)) ≡ 0) × (count_by q (all_in old) ≡ 1) × (count_by q (all_items (drop (suc at) items)) ≡ 0)
+    alone =
+        let split = ap all_items (split_at items at old is) ∙ flat_map-append all_in (take at items) (old ∷ drop (suc at) items) in
+        let counts : count_by q (all_items items) ≡ count_by q (all_items (take at items)) + (count_by q (all_in old) + count_by q (all_items (drop (suc at) items))) =
+        ap (count_by q) split
+        ∙ count_by-append q (all_items (take at items)) (all_in old ++ all_items (drop (suc at) items))
+        ∙ ap (λ n. count_by q (all_items (take at items)) + n) (count_by-append q (all_in old) (all_items (drop (suc at) items))) in
+        let some = any_some q (all_in old) has in
+        (omega arith, omega arith, omega arith)
 
--- no items make a proof
-pub no_items : IsProof []
-unfolding IsDistinct
-no_items = record { lines = λ k d h. absurd (omega arith); distinct = tt; unrooted = refl; few = omega arith }
+    -- so it is found there
+    pub found_there : find q (all_items items) ≡ find q (all_in old)
+    found_there =
+        ap (find q) (ap all_items (split_at items at old is) ∙ flat_map-append all_in (take at items) (old ∷ drop (suc at) items))
+        ∙ find-append q (all_items (take at items)) (all_in old ++ all_items (drop (suc at) items))
+        ∙ none_or _ _ (not_some _ (find_any q (all_items (take at items)) ∙ none_any q (all_items (take at items)) alone.0))
+        ∙ find-append q (all_in old) (all_items (drop (suc at) items))
+        ∙ some_or _ _ (find_any q (all_in old) ∙ has)
 
-or_left : (a b : Bool) → (a || b) ≡ false → a ≡ false
-or_left true b e = cc
-or_left false b e = refl
+    -- and it alone changes
+    pub one_changed : set items at (f old) ≡ map f items
+    one_changed =
+        set_at items at old (f old) is
+        ∙ ap (λ back. take at items ++ f old ∷ back) (sym (still_all (drop (suc at) items) alone.2))
+        ∙ ap (λ front. front ++ f old ∷ map f (drop (suc at) items)) (sym (still_all (take at items) alone.0))
+        ∙ sym (map-append f (take at items) (old ∷ drop (suc at) items))
+        ∙ ap (map f) (sym (split_at items at old is))
 
-or_right : (a b : Bool) → (a || b) ≡ false → b ≡ false
-or_right true b e = cc
-or_right false b e = e
+    -- and what passes a stronger test is in it
+    pub any_there : (p : Item → Bool) → ((i : Item) → q i ≡ false → p i ≡ false) → list_any p (all_items items) ≡ true → list_any p (all_in old) ≡ true
+    any_there p weaker some =
+        let split = ap all_items (split_at items at old is) ∙ flat_map-append all_in (take at items) (old ∷ drop (suc at) items) in
+        let front = any_weaker p q weaker (all_items (take at items)) (none_any q _ alone.0) in
+        let back = any_weaker p q weaker (all_items (drop (suc at) items)) (none_any q _ alone.2) in
+        middle _ _ _ front back
+        (sym (ap (list_any p) split
+        ∙ list_any-append p (all_items (take at items)) (all_in old ++ all_items (drop (suc at) items))
+        ∙ ap (λ b. list_any p (all_items (take at items)) || b) (list_any-append p (all_in old) (all_items (drop (suc at) items)))) ∙ some)
+      where
+        middle : (a b c : Bool) → a ≡ false → c ≡ false → (a || (b || c)) ≡ true → b ≡ true
+        middle a true c x y z = refl
+        middle true false c x y z = cc
+        middle false false c x y z = cc
 
-or_both : (a b : Bool) → a ≡ false → b ≡ false → (a || b) ≡ false
-or_both a b p q = rw (p, q)
+module _ (q : Item → Bool) (l : List ℕ) (vars : List TypedVar) (trees : List Tree) (items : List Item) where
+  -- a box counts itself and what is in it
+  pub count_by-block : count_by q (all_in (item.Block l vars trees items)) ≡ cond (q (item.Block l vars trees items)) 1 0 + count_by q (all_items items)
+  count_by-block = ap (count_by q) (all_in-block l vars trees items) ∙ count_by-cons q (item.Block l vars trees items) (all_items items)
 
-neither_left : (a b : Bool) → (not a && not b) ≡ true → a ≡ false
-neither_left true b e = cc
-neither_left false b e = refl
-
-neither_right : (a b : Bool) → (not a && not b) ≡ true → b ≡ false
-neither_right true b e = cc
-neither_right false true e = cc
-neither_right false false e = refl
-
-both_left : (a b : Bool) → (a && b) ≡ true → a ≡ true
-both_left true b e = refl
-both_left false b e = cc
-
-none_left : {X : Type 0} (a b : Option X) → option_or a b ≡ None → a ≡ None
-none_left None b e = refl
-none_left (Some x) b e = cc
-
-none_right : {X : Type 0} (a b : Option X) → option_or a b ≡ None → b ≡ None
-none_right None b e = e
-none_right (Some x) b e = cc
-
-passes : (b : Bool) (blame : ProofFault) → unless b blame ≡ None → b ≡ true
-passes true blame e = refl
-passes false blame e = cc
-
--- an item without a fault has a label of its own, and there is room for it
-pub has_room : (items : List Item) (block : List ℕ) (before : Option (List ℕ)) (label : List ℕ) → insert_fault items block before label ≡ None → (is_free items label ≡ true) × (length items < 4096)
-has_room items block before label e =
-    let later : option_or (label_fault items label) (room_fault items) ≡ None = none_right _ _ (none_right _ _ e) in
-    let short : nat_lt (length items) 4096 ≡ true = passes _ _ (none_right _ _ later) in
-    (passes _ _ (none_left _ _ later), within _ short)
-  where
-    within : (n : ℕ) → nat_lt n 4096 ≡ true → n < 4096
-    within n e = grind (arith, nat_tests)
-
--- the labels of items that have no item of a label differ from it
-apart : (label : List ℕ) (items : List Item) → is_label items label ≡ false → AllByRecursion (λ other. pointwise nat_eq label other ≡ false) (map label_of items)
-apart label [] none = tt
-apart label (item ∷ items) none = (nat_list_eq_equiv.symm label (label_of item) ∙ or_left _ _ none, apart label items (or_right _ _ none))
-
--- a line that may be inserted keeps a proof a proof
-pub one_more : (items : List Item) (at : ℕ) (line : Item) (block : List ℕ) (before : Option (List ℕ)) → IsProof items → IsLine line → at ≤ length items
-    → insert_fault items block before (label_of line) ≡ None → IsProof (insert items at line)
-one_more items at line block before is a_line within free = record {
-  lines = All-permutation IsLine (line ∷ items) (insert items at line) moved (All-cons IsLine line items a_line is.lines);
-  distinct = IsDistinct-IsPermutation (pointwise nat_eq) nat_list_eq_equiv.symm _ _ (IsPermutation-map label_of _ _ moved) (IsDistinct-cons _ _ _ (apart (label_of line) items (neither_left _ _ room.0)) is.distinct);
-  unrooted = sym (list_any-IsPermutation (has_label root) _ _ moved) ∙ or_both _ _ (neither_right (is_label items (label_of line)) _ room.0) is.unrooted;
-  few = omega (arith, length-insert items at line within, room.1);
-}
-  where
-    moved : IsPermutation (line ∷ items) (insert items at line)
-    moved = IsPermutation-insert items at line
-
-    room : (is_free items (label_of line) ≡ true) × (length items < 4096)
-    room = has_room items block before (label_of line) free
-
-label_line : (label : List ℕ) (tree : Tree) (why : Option Why) → label_of (item.Line label tree why) ≡ label
-label_line label tree why = ap label_of (sym (item.rolls-Line label tree why)) ∙ fold-roll-Item (List ℕ) label_step (Line label tree why)
-
-label_block : (label : List ℕ) (vars : List TypedVar) (assumptions : List Tree) (items : List Item) → label_of (item.Block label vars assumptions items) ≡ label
-label_block label vars assumptions items = ap label_of (sym (item.rolls-Block label vars assumptions items)) ∙ fold-roll-Item (List ℕ) label_step (Block label vars assumptions items)
-
-line_line : (label : List ℕ) (tree : Tree) (why : Option Why) → is_line (item.Line label tree why) ≡ true
-line_line label tree why = ap is_line (sym (item.rolls-Line label tree why)) ∙ fold-roll-Item Bool line_step (Line label tree why)
-
-line_block : (label : List ℕ) (vars : List TypedVar) (assumptions : List Tree) (items : List Item) → is_line (item.Block label vars assumptions items) ≡ false
-line_block label vars assumptions items = ap is_line (sym (item.rolls-Block label vars assumptions items)) ∙ fold-roll-Item Bool line_step (Block label vars assumptions items)
-
-step_label : (why : Option Why) (y : Item-F Item) → label_of (why_step why y) ≡ label_step (map-Item Item (List ℕ) label_of y)
-step_label why (Line label tree before) = label_line label tree why
-step_label why (Block label vars assumptions items) = label_block label vars assumptions items
-
-step_line : (why : Option Why) (y : Item-F Item) → is_line (why_step why y) ≡ line_step (map-Item Item Bool is_line y)
-step_line why (Line label tree before) = line_line label tree why
-step_line why (Block label vars assumptions items) = line_block label vars assumptions items
-
--- another justification leaves an item its label
-label_of-with_why : (why : Option Why) (i : Item) → label_of (with_why why i) ≡ label_of i
-label_of-with_why why i = step_label why (out-Item i) ∙ sym (fold_out-Item (List ℕ) label_step i)
-
--- and leaves a line a line
-is_line-with_why : (why : Option Why) (i : Item) → is_line (with_why why i) ≡ is_line i
-is_line-with_why why i = step_line why (out-Item i) ∙ sym (fold_out-Item Bool line_step i)
-
-step_twice : (first second : Option Why) (y : Item-F Item) → with_why second (why_step first y) ≡ why_step second y
-step_twice first second (Line label tree before) = ap (with_why second) (sym (item.rolls-Line label tree first)) ∙ ap (why_step second) (out-roll-Item (Line label tree first))
-step_twice first second (Block label vars assumptions items) =
-    ap (with_why second) (sym (item.rolls-Block label vars assumptions items)) ∙ ap (why_step second) (out-roll-Item (Block label vars assumptions items))
-
--- of two justifications the second stays
-with_why_twice : (first second : Option Why) (i : Item) → with_why second (with_why first i) ≡ with_why second i
-with_why_twice first second i = step_twice first second (out-Item i)
-
-step_own : (y : Item-F Item) → why_step (reason_step (map-Item Item (Option Why) why_of y)) y ≡ roll-Item y
-step_own (Line label tree why) = sym (item.rolls-Line label tree why)
-step_own (Block label vars assumptions items) = sym (item.rolls-Block label vars assumptions items)
-
--- with its own justification an item is as it was
-with_why_own : (i : Item) → with_why (why_of i) i ≡ i
-with_why_own i = ap (λ why. why_step why (out-Item i)) (fold_out-Item (Option Why) reason_step i) ∙ step_own (out-Item i) ∙ roll-out-Item i
-
-module _ (label : List ℕ) (why : Option Why) where
-  label_of-rejustified : (i : Item) → label_of (rejustified label why i) ≡ label_of i
-  label_of-rejustified i = elim (is_line_at label i) as (λ b. label_of (cond b (with_why why i) i) ≡ label_of i) [ true ↦ label_of-with_why why i | false ↦ refl ]
-
-  is_line-rejustified : (i : Item) → is_line (rejustified label why i) ≡ is_line i
-  is_line-rejustified i = elim (is_line_at label i) as (λ b. is_line (cond b (with_why why i) i) ≡ is_line i) [ true ↦ is_line-with_why why i | false ↦ refl ]
-
-  same_labels : (items : List Item) → map label_of (with_why_at items label why) ≡ map label_of items
-  same_labels [] = refl
-  same_labels (i ∷ items) = rw (label_of-rejustified i, same_labels items)
-
-  same_is_label : (other : List ℕ) (items : List Item) → is_label (with_why_at items label why) other ≡ is_label items other
-  same_is_label other [] = refl
-  same_is_label other (i ∷ items) = rw (label_of-rejustified i, same_is_label other items)
-
-  is_line_at-rejustified : (i : Item) → is_line_at label (rejustified label why i) ≡ is_line_at label i
-  is_line_at-rejustified i = rw (label_of-rejustified i, is_line-rejustified i)
-
-  lines_stay : (items : List Item) → All IsLine items → All IsLine (with_why_at items label why)
-  lines_stay items lines = All-map IsLine (rejustified label why) items (λ k d h. is_line-rejustified (get_or items k d) ∙ lines k d h)
-
-  -- another justification keeps a proof a proof
-  pub other_why : (items : List Item) → IsProof items → IsProof (with_why_at items label why)
-  other_why items is = record {
-    lines = lines_stay items is.lines;
-    distinct = rw (same_labels items) is.distinct;
-    unrooted = same_is_label root items ∙ is.unrooted;
-    few = omega (arith, length-map items (rejustified label why));
-  }
-
-  -- where no item has the label, nothing changes
-  untouched : (items : List Item) → AllByRecursion (λ other. pointwise nat_eq label other ≡ false) (map label_of items) → with_why_at items label why ≡ items
-  untouched [] none = refl
-  untouched (i ∷ items) none = rw (nat_list_eq_equiv.symm (label_of i) label ∙ none.0, untouched items none.1)
-
-  -- of items of different labels, one alone changes: the first line of the label
-  first_replaced : (items : List Item) (d : Item) → IsDistinct (pointwise nat_eq) (map label_of items)
-      → set items (position_or_len (is_line_at label) items) (with_why why (get_or items (position_or_len (is_line_at label) items) d)) ≡ with_why_at items label why
-  first_replaced [] d distinct = refl
-  first_replaced (i ∷ items) d distinct = go (first_replaced items d (IsDistinct-tail _ _ _ distinct)) (is_line_at label i) refl
+module _ (q : Item → Bool) (change : List ℕ → List Item → List Item)
+    (quiet : (l : List ℕ) (vars : List TypedVar) (trees : List Tree) (items : List Item) → q (item.Block l vars trees items) ≡ false → count_by q (all_items items) ≡ 0 → change l items ≡ items) where
+  -- an edit that is quiet in boxes in which nothing is meant changes nothing in an item in which nothing is meant
+  pub still_edited : (i : Item) → count_by q (all_in i) ≡ 0 → edited_item change i ≡ i
+  still_edited =
+      item_ind (λ i. count_by q (all_in i) ≡ 0 → edited_item change i ≡ i) (λ l t w none. edited_item-line l t w change) (λ l vars trees items all none.
+      let parts = count_by-block q l vars trees items in
+      edited_item-block l vars trees items change
+      ∙ ap (λ inner. item.Block l vars trees (change l inner)) (stay items all (omega arith))
+      ∙ ap (item.Block l vars trees) (quiet l vars trees items (own_fails q (item.Block l vars trees items) none) (omega arith)))
     where
-      n : ℕ
-      n = position_or_len (is_line_at label) items
+      stay : (items : List Item) → AllByRecursion (λ i. count_by q (all_in i) ≡ 0 → edited_item change i ≡ i) items → count_by q (all_items items) ≡ 0 → map (edited_item change) items ≡ items
+      stay [] all none = refl
+      stay (i ∷ items) all none = let parts = count_by-append q (all_in i) (all_items items) in rw (all.0 (omega arith), stay items all.1 (omega arith)) refl
 
-      rest : is_line_at label i ≡ true → items ≡ with_why_at items label why
-      rest at = sym (untouched items (others _ (IsDistinct-head _ _ _ distinct)))
-        where
-          others : (labels : List (List ℕ)) → AllByRecursion (λ other. pointwise nat_eq (label_of i) other ≡ false) labels → AllByRecursion (λ other. pointwise nat_eq label other ≡ false) labels
-          others [] all = tt
-          others (other ∷ labels) all = (sym (nat_list_eq_equiv.congr (label_of i) label other (both_left _ _ at)) ∙ all.0, others labels all.1)
+-- ---- an item is put into a box
+module _ (block : List ℕ) (before : Option (List ℕ)) (new : Item) where
+  quiet_put : (l : List ℕ) (vars : List TypedVar) (trees : List Tree) (items : List Item) → has_label block (item.Block l vars trees items) ≡ false → count_by (has_label block) (all_items items) ≡ 0
+      → putting block before new l items ≡ items
+  quiet_put l vars trees items fails none = cond-false (pointwise nat_eq l block) (with_item items before new) items (ap (λ n. pointwise nat_eq n block) (sym (label_of-block l vars trees items)) ∙ fails)
 
-      go : set items n (with_why why (get_or items n d)) ≡ with_why_at items label why
-          → (b : Bool) → is_line_at label i ≡ b → set (i ∷ items) (cond (not b) (1 + n) 0) (with_why why (get_or (i ∷ items) (cond (not b) (1 + n) 0) d)) ≡ cond b (with_why why i) i ∷ with_why_at items label why
-      go later true at = ap (λ l. with_why why i ∷ l) (rest at)
-      go later false at = let e : suc n ≡ 1 + n = omega arith in
-          subst (λ k. set (i ∷ items) k (with_why why (get_or (i ∷ items) k d)) ≡ i ∷ with_why_at items label why) e (ap (λ l. i ∷ l) later)
+  -- where no item has the label, nothing is put in
+  pub still_put : (i : Item) → count_by (has_label block) (all_in i) ≡ 0 → edited_item (putting block before new) i ≡ i
+  still_put = still_edited (has_label block) (putting block before new) quiet_put
 
-  -- the line of a label is replaced where it is found
-  pub one_replaced : (items : List Item) (at : ℕ) (d old new : Item) → IsDistinct (pointwise nat_eq) (map label_of items) → Some at ≡ position (is_line_at label) items
-      → old ≡ get_or items at d → new ≡ with_why why old → set items at new ≡ with_why_at items label why
-  one_replaced items at d old new distinct found was is =
-      let here : position_or_len (is_line_at label) items ≡ at = by_test _ _ (sym found) in
-      rw (is, was, ← here) (first_replaced items d distinct)
-    where
-      by_test : (b : Bool) (n : ℕ) → cond b (Some n) None ≡ Some at → n ≡ at
-      by_test true n e = cc
-      by_test false n e = cc
+  module _ (l : List ℕ) (vars : List TypedVar) (trees : List Tree) (items : List Item) where
+    -- into the box of the label
+    pub put_here : pointwise nat_eq l block ≡ true → count_by (has_label block) (all_in (item.Block l vars trees items)) ≡ 1
+        → edited_item (putting block before new) (item.Block l vars trees items) ≡ item.Block l vars trees (with_item items before new)
+    put_here is one =
+        let own : has_label block (item.Block l vars trees items) ≡ true = ap (λ n. pointwise nat_eq n block) (label_of-block l vars trees items) ∙ is in
+        let parts = count_by-block (has_label block) l vars trees items in
+        let first = ap (λ (b : Bool). cond {A = ℕ} b 1 0) own in
+        edited_item-block l vars trees items (putting block before new)
+        ∙ ap (item.Block l vars trees) (cond-true (pointwise nat_eq l block) _ _ is ∙ ap (λ inner. with_item inner before new) (still_all (has_label block) (edited_item (putting block before new)) still_put items (omega arith)))
+
+    -- or further in
+    pub put_below : pointwise nat_eq l block ≡ false → edited_item (putting block before new) (item.Block l vars trees items) ≡ item.Block l vars trees (map (edited_item (putting block before new)) items)
+    put_below is = edited_item-block l vars trees items (putting block before new) ∙ ap (item.Block l vars trees) (cond-false (pointwise nat_eq l block) _ _ is)
+
+-- ---- an item is taken out
+-- an edit leaves each label
+pub label_of-edited : (change : List ℕ → List Item → List Item) (i : Item) → label_of (edited_item change i) ≡ label_of i
+label_of-edited change =
+    item_cases (λ i. label_of (edited_item change i) ≡ label_of i) (λ l t w. ap label_of (edited_item-line l t w change)) (λ l vars trees items.
+    ap label_of (edited_item-block l vars trees items change) ∙ label_of-block l vars trees (change l (map (edited_item change) items)) ∙ sym (label_of-block l vars trees items))
 
 module _ (label : List ℕ) where
-  rejustified_twice : (first second : Option Why) (i : Item) → rejustified label second (rejustified label first i) ≡ rejustified label second i
-  rejustified_twice first second i = go (is_line_at label i) refl
-    where
-      go : (b : Bool) → is_line_at label i ≡ b → rejustified label second (rejustified label first i) ≡ rejustified label second i
-      go true at = rw (is_line_at-rejustified label first i, at) (with_why_twice first second i)
-      go false at = rw (is_line_at-rejustified label first i, at) refl
+  -- where none of the items has the label, all are kept
+  kept_all : (items : List Item) → list_any (has_label label) items ≡ false → filter (λ each. not (has_label label each)) items ≡ items
+  kept_all [] none = refl
+  kept_all (i ∷ items) none = let parts = or_parts (has_label label i) (list_any (has_label label) items) none in rw (parts.0, kept_all items parts.1) refl
 
-  -- of two justifications of a line the second stays
-  pub with_why_at_twice : (first second : Option Why) (items : List Item) → with_why_at (with_why_at items label first) label second ≡ with_why_at items label second
-  with_why_at_twice first second [] = refl
-  with_why_at_twice first second (i ∷ items) = rw (rejustified_twice first second i, with_why_at_twice first second items)
+  -- where none of some items is counted, none of those at the top has the label
+  none_direct : (items : List Item) → count_by (has_label label) (all_items items) ≡ 0 → list_any (has_label label) items ≡ false
+  none_direct [] none = refl
+  none_direct (i ∷ items) none = let parts = count_by-append (has_label label) (all_in i) (all_items items) in or_from (has_label label i) (list_any (has_label label) items) (own_fails (has_label label) i (omega arith)) (none_direct items (omega arith))
 
-  -- with the justification that its line has, a proof is as it was
-  pub with_why_at_own : (items : List Item) (at : ℕ) (d old : Item) → IsDistinct (pointwise nat_eq) (map label_of items) → Some at ≡ position (is_line_at label) items → old ≡ get_or items at d
-      → with_why_at items label (why_of old) ≡ items
-  with_why_at_own items at d old distinct found was =
-      sym (one_replaced label (why_of old) items at d old old distinct found was (sym (with_why_own old))) ∙ ap (set items at) was ∙ set-get_or items at d
+  -- edited items have the labels that they had
+  any_edited : (items : List Item) → list_any (has_label label) (map (edited_item (dropping label)) items) ≡ list_any (has_label label) items
+  any_edited [] = refl
+  any_edited (i ∷ items) = rw (label_of-edited (dropping label) i, any_edited items) refl
+
+  pub still_dropped : (i : Item) → count_by (has_label label) (all_in i) ≡ 0 → edited_item (dropping label) i ≡ i
+  still_dropped = still_edited (has_label label) (dropping label) (λ l vars trees items fails none. kept_all items (none_direct items none))
+
+  module _ (items : List Item) (at : ℕ) (old : Item) (is : slice_get items at ≡ Some old) (one : count_by (has_label label) (all_items items) ≡ 1) where
+    -- where it stands directly among the items
+    pub taken_here : has_label label old ≡ true → remove items at ≡ removed items label
+    taken_here own =
+        let apart = alone (has_label label) (edited_item (dropping label)) still_dropped items at old is (own_any (has_label label) old own) one in
+        let front = take at items in
+        let back = drop (suc at) items in
+        sym (ap (λ all. filter (λ each. not (has_label label each)) (map (edited_item (dropping label)) all)) (split_at items at old is)
+        ∙ ap (filter (λ each. not (has_label label each))) (map-append (edited_item (dropping label)) front (old ∷ back)
+        ∙ ap (λ stay. stay ++ edited_item (dropping label) old ∷ map (edited_item (dropping label)) back) (still_all (has_label label) (edited_item (dropping label)) still_dropped front apart.0)
+        ∙ ap (λ stay. front ++ edited_item (dropping label) old ∷ stay) (still_all (has_label label) (edited_item (dropping label)) still_dropped back apart.2))
+        ∙ filter-append (λ each. not (has_label label each)) front (edited_item (dropping label) old ∷ back)
+        ∙ ap (λ stay. stay ++ filter (λ each. not (has_label label each)) (edited_item (dropping label) old ∷ back)) (kept_all front (none_direct front apart.0))
+        ∙ ap (λ b. front ++ cond (not b) (edited_item (dropping label) old ∷ filter (λ each. not (has_label label each)) back) (filter (λ each. not (has_label label each)) back)) (ap (λ l. pointwise nat_eq l label) (label_of-edited (dropping label) old) ∙ own)
+        ∙ ap (λ stay. front ++ stay) (kept_all back (none_direct back apart.2)))
+
+    -- and where it is further in
+    pub taken_below : list_any (has_label label) items ≡ false → list_any (has_label label) (all_in old) ≡ true → set items at (edited_item (dropping label) old) ≡ removed items label
+    taken_below none has =
+        one_changed (has_label label) (edited_item (dropping label)) still_dropped items at old is has one
+        ∙ sym (kept_all (map (edited_item (dropping label)) items) (any_edited items ∙ none))
+
+-- ---- an item is altered
+map-map : {X : Type 0} (f g : X → X) (xs : List X) → map f (map g xs) ≡ map (λ x. f (g x)) xs
+map-map f g [] = refl
+map-map f g (x ∷ xs) = ap (λ rest. f (g x) ∷ rest) (map-map f g xs)
+
+module _ (label : List ℕ) (alteration : Alteration) where
+  -- an item without the label stays
+  pub unaltered : (i : Item) → has_label label i ≡ false → altered_item label alteration i ≡ i
+  unaltered i fails = cond-false (has_label label i) _ i fails
+
+  quiet_alter : (items : List Item) → count_by (has_label label) (all_items items) ≡ 0 → map (altered_item label alteration) items ≡ items
+  quiet_alter [] none = refl
+  quiet_alter (i ∷ items) none =
+      let parts = count_by-append (has_label label) (all_in i) (all_items items) in
+      rw (unaltered i (own_fails (has_label label) i (omega arith)), quiet_alter items (omega arith)) refl
+
+  pub still_altered : (i : Item) → count_by (has_label label) (all_in i) ≡ 0 → edited_item (altering label alteration) i ≡ i
+  still_altered = still_edited (has_label label) (altering label alteration) (λ l vars trees items fails none. quiet_alter items none)
+
+  still_both : (i : Item) → count_by (has_label label) (all_in i) ≡ 0 → altered_item label alteration (edited_item (altering label alteration) i) ≡ i
+  still_both i none = ap (altered_item label alteration) (still_altered i none) ∙ unaltered i (own_fails (has_label label) i none)
+
+  -- the item that has the label or has it in it alone changes
+  pub altered_there : (items : List Item) (at : ℕ) (old : Item) → slice_get items at ≡ Some old → list_any (has_label label) (all_in old) ≡ true → count_by (has_label label) (all_items items) ≡ 1
+      → set items at (altered_item label alteration (edited_item (altering label alteration) old)) ≡ altered items label alteration
+  altered_there items at old is has one =
+      one_changed (has_label label) (λ i. altered_item label alteration (edited_item (altering label alteration) i)) still_both items at old is has one
+      ∙ sym (map-map (altered_item label alteration) (edited_item (altering label alteration)) items)
+
+  -- the item of the label itself
+  pub altered_here : (i : Item) → has_label label i ≡ true → count_by (has_label label) (all_in i) ≡ 1 → altered_step alteration (out-Item i) ≡ altered_item label alteration (edited_item (altering label alteration) i)
+  altered_here i own one =
+      sym (ap (altered_item label alteration) (item_cases (λ i. has_label label i ≡ true → count_by (has_label label) (all_in i) ≡ 1 → edited_item (altering label alteration) i ≡ i)
+      (λ l t w own one. edited_item-line l t w (altering label alteration))
+      (λ l vars trees items own one.
+      let parts = count_by-block (has_label label) l vars trees items in
+      let first = ap (λ (b : Bool). cond {A = ℕ} b 1 0) own in
+      edited_item-block l vars trees items (altering label alteration)
+      ∙ ap (item.Block l vars trees) (ap (map (altered_item label alteration)) (still_all (has_label label) (edited_item (altering label alteration)) still_altered items (omega arith)) ∙ quiet_alter items (omega arith))) i own one)
+      ∙ cond-true (has_label label i) (altered_step alteration (out-Item i)) i own)
+
+  -- and a box that has it in it
+  pub altered_below : (l : List ℕ) (vars : List TypedVar) (trees : List Tree) (items : List Item) → pointwise nat_eq l label ≡ false
+      → item.Block l vars trees (altered items label alteration) ≡ altered_item label alteration (edited_item (altering label alteration) (item.Block l vars trees items))
+  altered_below l vars trees items other =
+      sym (ap (altered_item label alteration) (edited_item-block l vars trees items (altering label alteration))
+      ∙ unaltered (item.Block l vars trees (altered items label alteration)) (ap (λ n. pointwise nat_eq n label) (label_of-block l vars trees (altered items label alteration)) ∙ other))
+
+-- ---- a box that isn't meant itself
+module _ (label : List ℕ) (l : List ℕ) (vars : List TypedVar) (trees : List Tree) (items : List Item) (is : pointwise nat_eq l label ≡ false) where
+  own : has_label label (item.Block l vars trees items) ≡ false
+  own = ap (λ n. pointwise nat_eq n label) (label_of-block l vars trees items) ∙ is
+
+  -- has the one that is meant in it
+  pub one_below : count_by (has_label label) (all_in (item.Block l vars trees items)) ≡ 1 → count_by (has_label label) (all_items items) ≡ 1
+  one_below one = let parts = count_by-block (has_label label) l vars trees items in let first = ap (λ (b : Bool). cond {A = ℕ} b 1 0) own in omega arith
+
+  pub box_below : list_any (is_box_at label) (all_in (item.Block l vars trees items)) ≡ true → list_any (is_box_at label) (all_items items) ≡ true
+  box_below some = sym (ap (list_any (is_box_at label)) (all_in-block l vars trees items) ∙ ap (λ b. (b && not (is_line (item.Block l vars trees items))) || list_any (is_box_at label) (all_items items)) own) ∙ some
+
+-- a box of a label has it
+pub box_weaker : (label : List ℕ) (i : Item) → has_label label i ≡ false → is_box_at label i ≡ false
+box_weaker label i fails = ap (λ b. b && not (is_line i)) fails
+
+-- a line is no box
+pub no_box : (label l : List ℕ) (t : Tree) (w : Option Why) → list_any (is_box_at label) (all_in (item.Line l t w)) ≡ false
+no_box label l t w = ap (list_any (is_box_at label)) (all_in-line l t w) ∙ ap (λ b. (has_label label (item.Line l t w) && not b) || false) (is_line-line l t w) ∙ none (has_label label (item.Line l t w))
+  where
+    none : (b : Bool) → ((b && false) || false) ≡ false
+    none true = refl
+    none false = refl
+
+-- an item that isn't meant itself, with the label of none of the items at the top
+pub none_at : (label : List ℕ) (items : List Item) (at : ℕ) (old : Item) → slice_get items at ≡ Some old → list_any (has_label label) items ≡ false → has_label label old ≡ false
+none_at label items at old is none =
+    (or_parts _ _ (or_parts _ _ (sym (ap (list_any (has_label label)) (split_at items at old is) ∙ list_any-append (has_label label) (take at items) (old ∷ drop (suc at) items)) ∙ none)).1).0
+
+-- no line has another item in it
+pub line_alone : (label l : List ℕ) (t : Tree) (w : Option Why) → has_label label (item.Line l t w) ≡ false → count_by (has_label label) (all_in (item.Line l t w)) ≡ 0
+line_alone label l t w fails = ap (count_by (has_label label)) (all_in-line l t w) ∙ ap (λ (b : Bool). 0 + cond {A = ℕ} b 1 0) fails
+
+-- what a box finds that isn't meant itself
+pub found_below : (label l : List ℕ) (vars : List TypedVar) (trees : List Tree) (items : List Item) → has_label label (item.Block l vars trees items) ≡ false
+    → find (has_label label) (all_in (item.Block l vars trees items)) ≡ find (has_label label) (all_items items)
+found_below label l vars trees items fails = ap (find (has_label label)) (all_in-block l vars trees items) ∙ cond-false (has_label label (item.Block l vars trees items)) _ _ fails

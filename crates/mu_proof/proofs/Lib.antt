@@ -1,2 +1,11 @@
 pub mod CitationEquations
+pub mod CountLemmas
+pub mod DepthLemmas
 pub mod EditLemmas
+pub mod InsertLemmas
+pub mod ItemEquations
+pub mod ItemInduction
+pub mod KeepLemmas
+pub mod ProofLemmas
+pub mod WalkLemmas
+pub mod WeightLemmas

@@ -80,7 +80,7 @@ fn add_item(alloc: Global, item: &Item, found: &mut Citations) -> Result<(), NoM
             Ok(())
         }
         Item::Block { items, .. } => {
-            add_items(alloc, items.as_slice(), found)?;
+            add_items(alloc, items.items(), found)?;
             Ok(())
         }
     }

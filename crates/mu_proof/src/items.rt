@@ -1,10 +1,11 @@
 ghost use Rattle.std.specs.Prelude.{◌≡◌, IfOk};
-ghost use Rattle.mu_proof.specs.Items.{label_of, is_line as line_test, IsLine, with_why, why_of};
+ghost use Rattle.mu_proof.specs.Items.{label_of, is_line as line_test};
+ghost use Rattle.mu_proof.specs.Edits.{altered_step};
+ghost use Rattle.mu_proof.specs.declared.items.Item.TheViews.{out-Item};
 
-use mu_tree::{Duplicate, Name, NoMemory, Tree, Trees, TypedVars, Why};
-use sqlite_items::Items;
+use crate::alteration::Alteration;
+use mu_tree::{Duplicate, Name, NoMemory, Sequence, Tree, Trees, TypedVars, Why};
 use std::alloc::Global;
-use std::mem;
 
 /// A step of a proof.
 #[derive(Drop)]
@@ -24,12 +25,12 @@ pub enum Item {
         /// What it assumes of them.
         assumptions: Trees,
         /// Its items, in order.
-        items: Items<Item>,
+        items: ItemList,
     },
 }
 
-/// A list of items, as a block holds them.
-pub type ItemList = Items<Item>;
+/// A list of items, as a proof and a box hold them.
+pub type ItemList = Sequence<Item>;
 
 impl Item {
     /// The item's label.
@@ -72,7 +73,7 @@ impl Item {
                 label: label.copy(alloc)?,
                 vars: vars.duplicate(alloc)?,
                 assumptions: Tree::copy_all(alloc, assumptions.as_slice())?,
-                items: Item::copy_all(alloc, items.as_slice())?,
+                items: Item::copy_all(alloc, items.items())?,
             }),
         }
     }
@@ -86,22 +87,51 @@ impl Item {
     pub fn copy_all(alloc: Global, items: &[Item]) -> Result<ItemList, NoMemory>
         ensures { IfOk result (λ copies. copies ≡ items.now) }
     {
-        let mut copies = Items::new(alloc);
+        let mut copies = Sequence::with_capacity(alloc, items.len())?;
         for item in items {
             copies.push(item.copy(alloc)?)?;
         }
         Ok(copies)
     }
 
-    /// Exchanges the justification of a line for another one.
-    pub(crate) fn swap_why(&mut self, reason: &mut Option<Why>)
-        requires { IsLine self.old }
-        ensures item { self.new ≡ with_why reason.old self.old }
-        ensures reason { reason.new ≡ why_of self.old }
+    /// Alters the item, where the alteration is one of its kind.
+    pub(crate) fn alter(&mut self, alteration: Alteration)
+        ensures { self.new ≡ altered_step alteration (out-Item self.old) }
     {
-        match self {
-            Item::Line { why, .. } => mem::swap(why, reason),
-            Item::Block { .. } => unreachable!(),
+        match alteration {
+            Alteration::Why(why) => self.set_why(why),
+            Alteration::Tree(tree) => self.set_tree(tree),
+            Alteration::Head { vars, assumptions } => self.set_head(vars, assumptions),
+        }
+    }
+
+    fn set_why(&mut self, new: Option<Why>)
+        ensures { self.new ≡ altered_step (Alteration.Why new) (out-Item self.old) }
+    {
+        if let Item::Line { why, .. } = self {
+            *why = new;
+        }
+    }
+
+    fn set_tree(&mut self, new: Tree)
+        ensures { self.new ≡ altered_step (Alteration.Tree new) (out-Item self.old) }
+    {
+        if let Item::Line { tree, .. } = self {
+            *tree = new;
+        }
+    }
+
+    fn set_head(&mut self, new_vars: TypedVars, new_assumptions: Trees)
+        ensures { self.new ≡ altered_step (Alteration.Head new_vars new_assumptions) (out-Item self.old) }
+    {
+        if let Item::Block {
+            vars,
+            assumptions,
+            ..
+        } = self
+        {
+            *vars = new_vars;
+            *assumptions = new_assumptions;
         }
     }
 }

@@ -1,27 +1,27 @@
-ghost use Rattle.std.specs.Prelude.{◌≡◌, true, false, ◌≢◌, ◌≤◌, [], length, None, Some, IfOk, OnOk, OnErr, IfErr};
+ghost use Rattle.std.specs.Prelude.{◌≡◌, ◌≢◌, true, false, [], None, Some, IfOk, OnOk, OnErr, IfErr};
 ghost use Rattle.std.specs.Option.{option_copied};
-ghost use Rattle.std.specs.List.{find, position};
-ghost use Rattle.mu_proof.specs.Items.{label_of, IsLine, has_label, is_line_at};
-ghost use Rattle.mu_proof.specs.Proofs.{IsProof, is_root as root_test, is_label, place_of, inserted, block_fault, before_fault, label_fault, room_fault, insert_fault, with_why_at, why_fault, is_line_label};
+ghost use Rattle.std.specs.List.{find};
+ghost use Rattle.mu_proof.specs.Items.{has_label, all_items};
+ghost use Rattle.mu_proof.specs.Edits.{inserted, removed, altered};
+ghost use Rattle.mu_proof.specs.Proofs.{IsProof, is_label, is_line_label, is_box_label, place_fault, insert_fault, remove_fault, line_fault, box_fault};
 
-use crate::fault::ProofFault;
-use crate::items::Item;
-use mu_tree::{Name, NoMemory, Why};
+use crate::alteration::Alteration;
+use crate::edits::{alter_in, insert_at, remove_from};
+use crate::fault::{ProofFault, expect};
+use crate::items::{Item, ItemList};
+use crate::places::{has_item, test_place, test_room};
+use crate::walks::find_in;
+use mu_tree::{Name, NoMemory, Sequence, Tree, Trees, TypedVars, Why};
 use std::alloc::Global;
 use std::marker::Model;
 
-/// The most items that a proof may have.
-const MOST_ITEMS: usize = 4096;
-
-/// The name of the whole proof, as of a block.
-const ROOT: &[u8] = b"root";
-
 /// A proof of a rule, which may be unfinished or wrong: its items, in order.
 ///
-/// Contracts see the list of its items. They are lines with labels that differ, none of them `root`, and at most 4,096.
+/// Contracts see the list of its items. Their labels differ, in whatever box they are, and none is `root`; boxes are at
+/// most 32 deep, and there are at most 4,096 items.
 #[derive(Drop)]
 pub struct Proof {
-    items: Vec<Item>,
+    items: ItemList,
 }
 
 impl Model for Proof {
@@ -35,9 +35,9 @@ impl Model for Proof {
 
     ghost coded = { coded_list item.the_row.coded };
 
-    ghost view = { λ proof. proof.items.items };
+    ghost view = { λ proof. proof.items };
 
-    ghost invariant = { λ proof. IsProof proof.items.items };
+    ghost invariant = { λ proof. IsProof proof.items };
 }
 
 impl Proof {
@@ -46,34 +46,64 @@ impl Proof {
         ensures { result ≡ [] }
     {
         Proof {
-            items: Vec::new(alloc),
+            items: Sequence::new(alloc),
         }
     }
 
-    /// The items, in order.
+    /// The items of the whole proof, in order.
     pub fn items(&self) -> &[Item]
         ensures all { result.now ≡ self.now }
         ensures proof { IsProof self.now }
     {
-        self.items.as_slice()
+        self.items.items()
     }
 
-    /// The item of a label, none exactly where no item has it.
+    /// The item of a label, in whatever box, none exactly where no item has it.
     pub fn find(&self, label: &Name) -> Option<&Item>
-        ensures { option_copied result ≡ find (has_label label.now) self.now }
+        ensures { option_copied result ≡ find (has_label label.now) (all_items self.now) }
     {
-        self.items.iter().find(|item| item.label() == label)
+        find_in(self.items.items(), label)
     }
 
-    /// Puts a line into a block, right before the item of the label `before`, or at the end where there is none.
-    ///
-    /// The block is `root`, the whole proof.
+    /// Whether a line, in whatever box, has a label.
+    pub fn has_line(&self, label: &Name) -> bool
+        ensures { result ≡ is_line_label self.now label.now }
+    {
+        match find_in(self.items.items(), label) {
+            Some(item) => item.is_line(),
+            None => false,
+        }
+    }
+
+    /// Tests whether an item may go into a block, right before the item of the label `before` or at the end.
     ///
     /// # Errors
     ///
-    /// `Unknown` where there is no such block, and then where no item of the block has the label `before`; `Taken`
-    /// where an item has the label of the new one, or the label is `root`; `Items` where the proof has 4,096 items.
-    /// The first of them that fits is the answer. `NoMemory` may come at any call. Each leaves the proof as it was.
+    /// `Unknown` and `Taken` as of `insert`. `NoMemory` may come at any call.
+    pub fn test_place(
+        &self,
+        alloc: Global,
+        block: &Name,
+        before: Option<&Name>,
+        item: &Item,
+    ) -> Result<(), ProofFault>
+        ensures ok { OnOk result (place_fault self.now block.now (option_copied before.entry) item.now ≡ None) }
+        ensures fault { IfErr result (λ fault. fault ≢ ProofFault.NoMemory → place_fault self.now block.now (option_copied before.entry) item.now ≡ Some fault) }
+    {
+        test_place(alloc, self.items.items(), block, before, item)
+    }
+
+    /// Puts an item into a block, right before the item of the label `before`, or at the end where there is none.
+    ///
+    /// The block is `root`, the whole proof, or the label of a box.
+    ///
+    /// # Errors
+    ///
+    /// `Unknown` where there is no such block, and then where no item directly in the block has the label `before`;
+    /// `Taken` where a label of the item or of one in it is in use, stands twice in the item or is `root`, with the
+    /// first such label; `Boxes` where boxes would be more than 32 deep; `Items` where there would be more than 4,096
+    /// items. The first of them that fits is the answer. `NoMemory` may come at any call. Each leaves the proof as it
+    /// was.
     pub fn insert(
         &mut self,
         alloc: Global,
@@ -81,14 +111,66 @@ impl Proof {
         before: Option<&Name>,
         item: Item,
     ) -> Result<(), ProofFault>
-        requires { IsLine item }
-        ensures ok { OnOk result (insert_fault self.old block.now (option_copied before.entry) (label_of item) ≡ None) }
-        ensures new { OnOk result (self.new ≡ inserted self.old (option_copied before.entry) item) }
-        ensures fault { IfErr result (λ fault. fault ≢ ProofFault.NoMemory → insert_fault self.old block.now (option_copied before.entry) (label_of item) ≡ Some fault) }
+        ensures ok { OnOk result (insert_fault self.old block.now (option_copied before.entry) item ≡ None) }
+        ensures new { OnOk result (self.new ≡ inserted self.old block.now (option_copied before.entry) item) }
+        ensures fault { IfErr result (λ fault. fault ≢ ProofFault.NoMemory → insert_fault self.old block.now (option_copied before.entry) item ≡ Some fault) }
         ensures err { OnErr result (self.new ≡ self.old) }
     {
-        let at = room_for(alloc, &self.items, block, before, item.label())?;
-        self.items.insert(at, item)?;
+        self.test_insert(alloc, block, before, &item)?;
+        insert_at(&mut self.items, block, before, item)?;
+        Ok(())
+    }
+
+    /// Tests whether there is a place and room for an item.
+    fn test_insert(
+        &self,
+        alloc: Global,
+        block: &Name,
+        before: Option<&Name>,
+        item: &Item,
+    ) -> Result<(), ProofFault>
+        ensures ok { OnOk result (insert_fault self.now block.now (option_copied before.entry) item.now ≡ None) }
+        ensures fault { IfErr result (λ fault. fault ≢ ProofFault.NoMemory → insert_fault self.now block.now (option_copied before.entry) item.now ≡ Some fault) }
+    {
+        test_place(alloc, self.items.items(), block, before, item)?;
+        test_room(self.items.items(), block, item)
+    }
+
+    /// Replaces the expression of the line of a label, which keeps its justification.
+    ///
+    /// # Errors
+    ///
+    /// `Unknown` where no line has the label. `NoMemory` may come at any call. Each leaves the proof as it was.
+    pub fn alter_line(&mut self, alloc: Global, label: &Name, tree: Tree) -> Result<(), ProofFault>
+        ensures ok { OnOk result (line_fault self.old label.now ≡ None) }
+        ensures new { OnOk result (self.new ≡ altered self.old label.now (Alteration.Tree tree)) }
+        ensures fault { IfErr result (λ fault. fault ≢ ProofFault.NoMemory → line_fault self.old label.now ≡ Some fault) }
+        ensures err { OnErr result (self.new ≡ self.old) }
+    {
+        expect(alloc, self.has_line(label), label)?;
+        self.alter(label, Alteration::Tree(tree));
+        Ok(())
+    }
+
+    /// Replaces the variables and assumptions of the box of a label, which keeps its items.
+    ///
+    /// # Errors
+    ///
+    /// `Unknown` where no box has the label. `NoMemory` may come at any call. Each leaves the proof as it was.
+    pub fn alter_block(
+        &mut self,
+        alloc: Global,
+        label: &Name,
+        vars: TypedVars,
+        assumptions: Trees,
+    ) -> Result<(), ProofFault>
+        ensures ok { OnOk result (box_fault self.old label.now ≡ None) }
+        ensures new { OnOk result (self.new ≡ altered self.old label.now (Alteration.Head vars assumptions)) }
+        ensures fault { IfErr result (λ fault. fault ≢ ProofFault.NoMemory → box_fault self.old label.now ≡ Some fault) }
+        ensures err { OnErr result (self.new ≡ self.old) }
+    {
+        expect(alloc, self.has_box(label), label)?;
+        self.alter(label, Alteration::Head { vars, assumptions });
         Ok(())
     }
 
@@ -103,36 +185,44 @@ impl Proof {
         label: &Name,
         why: Option<Why>,
     ) -> Result<(), ProofFault>
-        ensures ok { OnOk result (why_fault self.old label.now ≡ None) }
-        ensures new { OnOk result (self.new ≡ with_why_at self.old label.now why) }
-        ensures fault { IfErr result (λ fault. fault ≢ ProofFault.NoMemory → why_fault self.old label.now ≡ Some fault) }
+        ensures ok { OnOk result (line_fault self.old label.now ≡ None) }
+        ensures new { OnOk result (self.new ≡ altered self.old label.now (Alteration.Why why)) }
+        ensures fault { IfErr result (λ fault. fault ≢ ProofFault.NoMemory → line_fault self.old label.now ≡ Some fault) }
         ensures err { OnErr result (self.new ≡ self.old) }
     {
-        let mut why = why;
-        if self.swap_why(label, &mut why) {
-            return Ok(());
-        }
-        Err(ProofFault::Unknown(label.copy(alloc)?))
+        expect(alloc, self.has_line(label), label)?;
+        self.alter(label, Alteration::Why(why));
+        Ok(())
     }
 
-    /// Exchanges the justification of the line of a label for another one, where there is such a line, and says whether
-    /// there is. It takes no memory.
-    ///
-    /// A second exchange gives the proof as it was.
-    pub fn swap_why(&mut self, label: &Name, why: &mut Option<Why>) -> bool
+    /// Replaces the justification of the line of a label where there is such a line, and says whether there is. It takes
+    /// no memory.
+    pub fn replace_why(&mut self, label: &Name, why: Option<Why>) -> bool
         ensures found { result ≡ is_line_label self.old label.now }
-        ensures there { result ≡ true → self.new ≡ with_why_at self.old label.now why.old }
-        ensures back { result ≡ true → with_why_at self.new label.now why.new ≡ self.old }
+        ensures there { result ≡ true → self.new ≡ altered self.old label.now (Alteration.Why why) }
         ensures none { result ≡ false → self.new ≡ self.old }
-        ensures kept { result ≡ false → why.new ≡ why.old }
     {
-        match line_position_of(&self.items, label) {
-            Some(at) => {
-                self.items[at].swap_why(why);
-                true
-            }
-            None => false,
+        if !self.has_line(label) {
+            return false;
         }
+        self.alter(label, Alteration::Why(why));
+        true
+    }
+
+    /// Takes the item of a label out, with all in it.
+    ///
+    /// # Errors
+    ///
+    /// `Unknown` where no item has the label. `NoMemory` may come at any call. Each leaves the proof as it was.
+    pub fn remove(&mut self, alloc: Global, label: &Name) -> Result<Item, ProofFault>
+        ensures ok { OnOk result (remove_fault self.old label.now ≡ None) }
+        ensures item { IfOk result (λ item. find (has_label label.now) (all_items self.old) ≡ Some item) }
+        ensures new { OnOk result (self.new ≡ removed self.old label.now) }
+        ensures fault { IfErr result (λ fault. fault ≢ ProofFault.NoMemory → remove_fault self.old label.now ≡ Some fault) }
+        ensures err { OnErr result (self.new ≡ self.old) }
+    {
+        expect(alloc, has_item(self.items.items(), label), label)?;
+        Ok(remove_from(&mut self.items, label))
     }
 
     /// An equal proof in memory of its own.
@@ -143,102 +233,26 @@ impl Proof {
     pub fn copy(&self, alloc: Global) -> Result<Proof, NoMemory>
         ensures { IfOk result (λ proof. proof ≡ self.now) }
     {
-        let mut items = Vec::new(alloc);
-        for item in &self.items {
-            items.push(item.copy(alloc)?)?;
+        Ok(Proof {
+            items: Item::copy_all(alloc, self.items.items())?,
+        })
+    }
+
+    /// Whether a box has a label.
+    fn has_box(&self, label: &Name) -> bool
+        ensures { result ≡ is_box_label self.now label.now }
+    {
+        match find_in(self.items.items(), label) {
+            Some(item) => !item.is_line(),
+            None => false,
         }
-        Ok(Proof { items })
     }
-}
 
-fn is_root(name: &Name) -> bool
-    ensures { result ≡ root_test name.now }
-{
-    name.bytes() == ROOT
-}
-
-fn position_of(items: &[Item], label: &Name) -> Option<usize>
-    ensures { result ≡ position (has_label label.now) items.now }
-{
-    items.iter().position(|item| item.label() == label)
-}
-
-fn line_position_of(items: &[Item], label: &Name) -> Option<usize>
-    ensures { result ≡ position (is_line_at label.now) items.now }
-{
-    items
-        .iter()
-        .position(|item| item.label() == label && item.is_line())
-}
-
-fn has_item(items: &[Item], label: &Name) -> bool
-    ensures { result ≡ is_label items.now label.now }
-{
-    items.iter().any(|item| item.label() == label)
-}
-
-// Where a line of the label goes, if it may go there.
-fn room_for(
-    alloc: Global,
-    items: &[Item],
-    block: &Name,
-    before: Option<&Name>,
-    label: &Name,
-) -> Result<usize, ProofFault>
-    ensures ok { OnOk result (insert_fault items.now block.now (option_copied before.entry) label.now ≡ None) }
-    ensures place { IfOk result (λ at. at ≡ place_of items.now (option_copied before.entry)) }
-    ensures within { IfOk result (λ at. at ≤ length items.now) }
-    ensures fault { IfErr result (λ fault. fault ≢ ProofFault.NoMemory → insert_fault items.now block.now (option_copied before.entry) label.now ≡ Some fault) }
-{
-    test_block(alloc, block)?;
-    let at = place(alloc, items, before)?;
-    test_label(alloc, items, label)?;
-    test_room(items)?;
-    Ok(at)
-}
-
-fn test_block(alloc: Global, block: &Name) -> Result<(), ProofFault>
-    ensures ok { OnOk result (block_fault block.now ≡ None) }
-    ensures fault { IfErr result (λ fault. fault ≢ ProofFault.NoMemory → block_fault block.now ≡ Some fault) }
-{
-    if is_root(block) {
-        return Ok(());
+    /// Alters the item of a label.
+    fn alter(&mut self, label: &Name, alteration: Alteration)
+        requires { is_label self.old label.now ≡ true }
+        ensures { self.new ≡ altered self.old label.now alteration }
+    {
+        alter_in(&mut self.items, label, alteration);
     }
-    Err(ProofFault::Unknown(block.copy(alloc)?))
-}
-
-#[tactic(auto, using(crate::proofs::EditLemmas::none_passes, crate::proofs::EditLemmas::one_passes))]
-fn place(alloc: Global, items: &[Item], before: Option<&Name>) -> Result<usize, ProofFault>
-    ensures ok { OnOk result (before_fault items.now (option_copied before.entry) ≡ None) }
-    ensures place { IfOk result (λ at. at ≡ place_of items.now (option_copied before.entry)) }
-    ensures within { IfOk result (λ at. at ≤ length items.now) }
-    ensures fault { IfErr result (λ fault. fault ≢ ProofFault.NoMemory → before_fault items.now (option_copied before.entry) ≡ Some fault) }
-{
-    let Some(label) = before else {
-        return Ok(items.len());
-    };
-    match position_of(items, label) {
-        Some(at) => Ok(at),
-        None => Err(ProofFault::Unknown(label.copy(alloc)?)),
-    }
-}
-
-fn test_label(alloc: Global, items: &[Item], label: &Name) -> Result<(), ProofFault>
-    ensures ok { OnOk result (label_fault items.now label.now ≡ None) }
-    ensures fault { IfErr result (λ fault. fault ≢ ProofFault.NoMemory → label_fault items.now label.now ≡ Some fault) }
-{
-    if !has_item(items, label) && !is_root(label) {
-        return Ok(());
-    }
-    Err(ProofFault::Taken(label.copy(alloc)?))
-}
-
-fn test_room(items: &[Item]) -> Result<(), ProofFault>
-    ensures ok { OnOk result (room_fault items.now ≡ None) }
-    ensures fault { IfErr result (λ fault. room_fault items.now ≡ Some fault) }
-{
-    if items.len() < MOST_ITEMS {
-        return Ok(());
-    }
-    Err(ProofFault::Items)
 }

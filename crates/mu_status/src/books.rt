@@ -65,10 +65,25 @@ fn proof_ways(
     ensures value { IfOk result (λ ways. ways ≡ proof_ways store.now rule.now (finite.entries proofs.now)) }
     ensures work { work.old.lines ≤ work.new.lines }
 {
-    let mut ways = Sequence::new(alloc);
     let mut checker = Checker::new(alloc, store, rule)?;
+    checked_ways(alloc, store, proofs, &mut checker, work)
+}
+
+/// What each proof of the checker's rule that checks cites.
+fn checked_ways(
+    alloc: Global,
+    store: &Store,
+    proofs: &Table<Proof>,
+    checker: &mut Checker,
+    work: &mut Work,
+) -> Result<Sequence<Citations>, NoMemory>
+    requires { IsChecker (world_of store.now) checker.old }
+    ensures value { IfOk result (λ ways. ways ≡ proof_ways store.now checker.old.rule (finite.entries proofs.now)) }
+    ensures work { work.old.lines ≤ work.new.lines }
+{
+    let mut ways = Sequence::new(alloc);
     for entry in proofs.entries(alloc)? {
-        add_way(alloc, store, entry.1, &mut checker, &mut ways, work)?;
+        add_way(alloc, store, entry.1, checker, &mut ways, work)?;
     }
     Ok(ways)
 }

@@ -6,11 +6,36 @@ use Rattle.mu_tables.specs.Operators.{Written}
 
 -- the words that each form begins with, and its number
 abbrev pub the_forms : List (List ℕ × ℕ)
-the_forms = (codes "axiom", 3) ∷ (codes "cite", 7) ∷ (codes "const", 2) ∷ (codes "line", 6) ∷ (codes "proof", 5) ∷ (codes "rule", 4) ∷ (codes "show rule", 9) ∷ (codes "status", 8) ∷ (codes "theory", 1) ∷ []
+the_forms =
+    (codes "axiom", 3)
+    ∷ (codes "box", 7)
+    ∷ (codes "cite", 8)
+    ∷ (codes "const", 2)
+    ∷ (codes "line", 6)
+    ∷ (codes "proof", 5)
+    ∷ (codes "rule", 4)
+    ∷ (codes "show proof", 11)
+    ∷ (codes "show rule", 10)
+    ∷ (codes "status", 9)
+    ∷ (codes "theory", 1)
+    ∷ []
 
 -- the word of each refusal, and its code
 abbrev pub the_refusals : List (List ℕ × ℕ)
-the_refusals = (codes "circle", 8) ∷ (codes "limit", 3) ∷ (codes "syntax", 2) ∷ (codes "taken", 5) ∷ (codes "too-many", 11) ∷ (codes "unknown", 4) ∷ []
+the_refusals =
+    (codes "builtin", 6)
+    ∷ (codes "circle", 8)
+    ∷ (codes "journal-full", 12)
+    ∷ (codes "limit", 3)
+    ∷ (codes "line-too-long", 1)
+    ∷ (codes "no-match", 9)
+    ∷ (codes "not-empty", 7)
+    ∷ (codes "syntax", 2)
+    ∷ (codes "taken", 5)
+    ∷ (codes "too-many", 11)
+    ∷ (codes "undetermined", 10)
+    ∷ (codes "unknown", 4)
+    ∷ []
 
 -- a row of the table of operators
 abbrev row : List ℕ → List ℕ → ℕ → Side → Written

@@ -21,35 +21,43 @@ macro_rules! operators {
 }
 
 /// The forms of commands: the words that a command of the form begins with, with one blank between each two.
-pub fn forms() -> Words<9>
+pub fn forms() -> Words<11>
     ensures { rows_of result.rows.now ≡ the_forms }
 {
     Words {
         rows: words! {
             "axiom" 3;
-            "cite" 7;
+            "box" 7;
+            "cite" 8;
             "const" 2;
             "line" 6;
             "proof" 5;
             "rule" 4;
-            "show rule" 9;
-            "status" 8;
+            "show proof" 11;
+            "show rule" 10;
+            "status" 9;
             "theory" 1;
         },
     }
 }
 
 /// The refusals: the word that each is told by, with its code.
-pub fn refusals() -> Words<6>
+pub fn refusals() -> Words<12>
     ensures { rows_of result.rows.now ≡ the_refusals }
 {
     Words {
         rows: words! {
+            "builtin" 6;
             "circle" 8;
+            "journal-full" 12;
             "limit" 3;
+            "line-too-long" 1;
+            "no-match" 9;
+            "not-empty" 7;
             "syntax" 2;
             "taken" 5;
             "too-many" 11;
+            "undetermined" 10;
             "unknown" 4;
         },
     }
@@ -78,9 +86,9 @@ mod tests {
 
     #[test]
     fn finds_rows(rt: HostRuntime) {
-        assert!(rt; forms().find(b"cite") == Some(7));
+        assert!(rt; forms().find(b"cite") == Some(8));
         assert!(rt; forms().find(b"cites").is_none());
-        assert!(rt; forms().find_behind(b"show ", b"rule") == Some(9));
+        assert!(rt; forms().find_behind(b"show ", b"rule") == Some(10));
         assert!(rt; forms().lengthened(b"", b"show").is_some());
         assert!(rt; operators().by_text(b"=>").map(|op| op.side) == Some(Side::Right));
     }

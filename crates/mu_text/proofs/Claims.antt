@@ -1,21 +1,21 @@
 -- Claims are read exactly.
-use Rattle.std.proofs.Common.{◌≡◌, true, List, [], ◌∷◌, ◌++◌, inl, inr, refl, ap, sym, ◌∙◌, subst, append_assoc, append-nil}
+use Rattle.std.proofs.Common.{◌≡◌, true, false, List, [], ◌∷◌, ◌++◌, inl, inr, refl, ap, sym, ◌∙◌, subst, append_assoc, append-nil}
 use Rattle.mu_grammar.specs.declared.symbol.Mark.{Mark}
-use Rattle.mu_grammar.specs.declared.symbol.Mark.TheVariants.{Semicolon, Turnstile}
-use Rattle.mu_grammar.specs.Lexemes.{Lexeme, mark}
-use Rattle.mu_grammar.specs.Parts.{Nothing, given_back, Then, chain, Made, mapped, Or, More, StandsEach, read_more}
+use Rattle.mu_grammar.specs.declared.symbol.Mark.TheVariants.{OpenBrace, CloseBrace, Semicolon, Turnstile}
+use Rattle.mu_grammar.specs.Lexemes.{Lexeme, word, mark}
+use Rattle.mu_grammar.specs.Marks.{is_mark}
+use Rattle.mu_grammar.specs.Parts.{Nothing, given_back, Then, chain, Made, mapped, Or, More, read_more}
 use Rattle.mu_grammar.specs.SimpleParts.{GivenMark, read_mark}
+use Rattle.mu_grammar.specs.Groups.{Enclosed}
 use Rattle.mu_grammar.specs.Writings.{Writing}
 use Rattle.mu_grammar.specs.Trees.{OneTree, read_tree}
-use Rattle.mu_grammar.specs.Claims.{Hypothesis, plain, Sentence, IsHypothesis, IsClaim, StandsHypothesis, StandsClaim, trees_in_hypothesis, trees_in_claim, goes_on, concluding, read_hypothesis, read_hypotheses, read_concluded, read_after, read_claim}
-use Rattle.mu_grammar.specs.declared.excess.Excess.{Excess}
-use Rattle.mu_tree.specs.declared.claim.Hyp.{Hyp}
-use Rattle.mu_tree.specs.declared.trees.Tree.{Tree}
-use Rattle.mu_grammar.specs.Excesses.{raised, in_each, one_tree, Raising, StandsTree}
-use Rattle.mu_text.proofs.Excesses.{raised-append}
+use Rattle.mu_grammar.specs.Blocks.{BlockWriting, IsBlock, begins_tree, read_block}
+use Rattle.mu_grammar.specs.Claims.{Hypothesis, plain, sequent, Sentence, IsHypothesis, IsClaim, goes_on, concluding, read_upshot, read_sequent, read_hypothesis, read_hypotheses, read_concluded, read_after, read_claim}
+use Rattle.mu_text.proofs.Blocks.{NoBlock, Exact-block, tree_passes}
 use Rattle.mu_text.proofs.Choice.{Passes, Fails, Exact-either}
 use Rattle.mu_text.proofs.Complete.{Follows, MayFollow, plain_follows}
 use Rattle.mu_text.proofs.Exact.{Exact, Exact-same, Exact-chain, Exact-mapped, Exact-pure, Exact-before}
+use Rattle.mu_text.proofs.Groups.{Exact-enclosed}
 use Rattle.mu_text.proofs.Lists.{Exact-more}
 use Rattle.mu_text.proofs.Simple.{Any, Exact-mark}
 use Rattle.mu_text.proofs.Trees.{NoSemicolon, Exact-tree}
@@ -24,15 +24,64 @@ use Rattle.mu_text.proofs.Trees.{NoSemicolon, Exact-tree}
 abbrev pub NoClaim : List Lexeme → Type 0
 NoClaim rest = Follows rest × Fails goes_on rest
 
-to_hypothesis : (ts : List Lexeme) (h : Hypothesis) → Made plain OneTree ts h → IsHypothesis ts h
-to_hypothesis ts h g = subst (λ (k : Hypothesis). IsHypothesis ts k) (sym g.2) g.1
+abbrev Upshot : List Lexeme → Writing → Type 0
+Upshot = Enclosed Turnstile CloseBrace OneTree
 
-from_hypothesis : (ts : List Lexeme) (h : Hypothesis) → IsHypothesis ts h → Made plain OneTree ts h
-from_hypothesis ts (plain w) g = (w, g, refl)
+exact_upshot : Exact read_upshot Upshot Any
+unfolding read_upshot
+exact_upshot = Exact-enclosed Turnstile CloseBrace read_tree OneTree Follows Exact-tree (λ rest. plain_follows CloseBrace 0 refl refl)
+
+abbrev Sequents : List Lexeme → Hypothesis → Type 0
+Sequents = Then (GivenMark OpenBrace) (λ _. Then IsBlock (λ x. Made (sequent x) Upshot))
+
+link_upshot : (x : BlockWriting) (ts : List Lexeme) (h : Hypothesis) (rest : List Lexeme) → Made (sequent x) Upshot ts h → Any rest → NoBlock (ts ++ rest)
+link_upshot x ts h rest g s = subst (λ (l : List Lexeme). NoBlock (l ++ rest)) (sym g.1.1) ((plain_follows Turnstile 0 refl refl, refl), refl)
+
+pub Exact-sequent : Exact read_sequent Sequents Any
+unfolding read_sequent
+Exact-sequent =
+    Exact-chain (read_mark OpenBrace) (λ _. chain read_block (λ x. mapped (sequent x) read_upshot)) (GivenMark OpenBrace) (λ _. Then IsBlock (λ x. Made (sequent x) Upshot)) Any Any (Exact-mark OpenBrace)
+    (λ u. Exact-chain read_block (λ x. mapped (sequent x) read_upshot) IsBlock (λ x. Made (sequent x) Upshot) NoBlock Any Exact-block (λ x. Exact-mapped (sequent x) read_upshot Upshot Any exact_upshot) link_upshot)
+    (λ u b y rest g s. tt)
+
+sequent_is : (ts : List Lexeme) (h : Hypothesis) → Sequents ts h → (x : BlockWriting) × (w : Writing) × IsHypothesis ts (sequent x w) × (h ≡ sequent x w)
+sequent_is ts h g =
+    let k = g.5 in
+    let u = k.5 in
+    (k.0, u.0, (k.1, u.1.0, g.3 ∙ (ap (λ l. l ++ g.2) g.4 ∙ ap (λ l. mark OpenBrace ∷ l) (k.3 ∙ ap (λ l. k.1 ++ l) u.1.1)), k.4, u.1.2), u.2)
+
+to_hypothesis : (ts : List Lexeme) (h : Hypothesis) → Or Sequents (Made plain OneTree) ts h → IsHypothesis ts h
+to_hypothesis ts h (inl g) = let k = sequent_is ts h g in subst (λ (k : Hypothesis). IsHypothesis ts k) (sym k.3) k.2
+to_hypothesis ts h (inr g) = subst (λ (k : Hypothesis). IsHypothesis ts k) (sym g.2) g.1
+
+from_hypothesis : (ts : List Lexeme) (h : Hypothesis) → IsHypothesis ts h → Or Sequents (Made plain OneTree) ts h
+from_hypothesis ts (plain w) g = inr (w, g, refl)
+from_hypothesis ts (sequent x w) g =
+    let inner : List Lexeme = mark Turnstile ∷ (g.1 ++ (mark CloseBrace ∷ [])) in
+    inl (tt, mark OpenBrace ∷ [], g.0 ++ inner, g.2, refl, (x, g.0, inner, refl, g.3, (w, (g.1, refl, g.4), refl)))
+
+sequent_passes : (ts : List Lexeme) (h : Hypothesis) → Sequents ts h → Passes (is_mark OpenBrace) ts
+sequent_passes ts h g = subst (Passes (is_mark OpenBrace)) (sym (g.3 ∙ ap (λ l. l ++ g.2) g.4)) refl
+
+-- no tree begins with a brace
+beginning_fails : (T : Lexeme) → begins_tree T ≡ true → is_mark OpenBrace T ≡ false
+beginning_fails (word w text) e = refl
+beginning_fails (mark OpenBrace) e = cc
+beginning_fails (mark _) e = refl
+
+tree_fails : (ts rest : List Lexeme) → Passes begins_tree ts → Fails (is_mark OpenBrace) (ts ++ rest)
+tree_fails [] rest h = absurd h
+tree_fails (T ∷ ts) rest h = beginning_fails T h
 
 pub Exact-hypothesis : Exact read_hypothesis IsHypothesis Follows
 unfolding read_hypothesis
-Exact-hypothesis = Exact-same read_hypothesis (Made plain OneTree) IsHypothesis Follows to_hypothesis from_hypothesis (Exact-mapped plain read_tree OneTree Follows Exact-tree)
+Exact-hypothesis =
+    Exact-same read_hypothesis (Or Sequents (Made plain OneTree)) IsHypothesis Follows to_hypothesis from_hypothesis
+    (Exact-either (is_mark OpenBrace) read_sequent (mapped plain read_tree) Sequents (Made plain OneTree) Follows
+    (Exact-before read_sequent Sequents Any Follows (λ rest s. tt) Exact-sequent)
+    (Exact-mapped plain read_tree OneTree Follows Exact-tree)
+    sequent_passes
+    (λ ts h rest g s. tree_fails ts rest (tree_passes ts g.0 g.1)))
 
 abbrev Ending : List Hypothesis → List Lexeme → Sentence → Type 0
 Ending hs = Then (GivenMark Turnstile) (λ _. Made (concluding hs) OneTree)
@@ -78,6 +127,7 @@ concluded_passes h ts y g = let m : Marked ts = marked h ts y g in subst (Passes
 
 abbrev After : Hypothesis → List Lexeme → Sentence → Type 0
 After (plain w) = Or (Concluded (plain w)) (Nothing (concluding [] w))
+After (sequent x w) = Concluded (sequent x w)
 
 alone_fails : (y : Sentence) (ts : List Lexeme) (x : Sentence) (rest : List Lexeme) → Nothing y ts x → NoClaim rest → Fails goes_on (ts ++ rest)
 alone_fails y ts x rest g s = subst (λ (l : List Lexeme). Fails goes_on (l ++ rest)) (sym g.0) s.1
@@ -87,21 +137,31 @@ exact_after (plain w) =
     Exact-either goes_on (read_concluded (plain w)) (given_back (concluding [] w)) (Concluded (plain w)) (Nothing (concluding [] w)) NoClaim
     (Exact-before (read_concluded (plain w)) (Concluded (plain w)) Follows NoClaim (λ rest s. s.0) (exact_concluded (plain w)))
     (Exact-pure (concluding [] w) NoClaim) (concluded_passes (plain w)) (alone_fails (concluding [] w))
+exact_after (sequent x w) = Exact-before (read_concluded (sequent x w)) (Concluded (sequent x w)) Follows NoClaim (λ rest s. s.0) (exact_concluded (sequent x w))
+
+link_concluded : (h : Hypothesis) (ts : List Lexeme) (y : Sentence) (rest : List Lexeme) → Concluded h ts y → Follows (ts ++ rest)
+link_concluded h ts y rest g = let m : Marked ts = marked h ts y g in subst (λ (l : List Lexeme). Follows (l ++ rest)) (sym m.is) m.free
 
 link_after : (h : Hypothesis) (ts : List Lexeme) (y : Sentence) (rest : List Lexeme) → After h ts y → NoClaim rest → Follows (ts ++ rest)
-link_after (plain w) ts y rest (inl g) s = let m : Marked ts = marked (plain w) ts y g in subst (λ (l : List Lexeme). Follows (l ++ rest)) (sym m.is) m.free
+link_after (plain w) ts y rest (inl g) s = link_concluded (plain w) ts y rest g
+link_after (sequent x w) ts y rest g s = link_concluded (sequent x w) ts y rest g
 link_after (plain w) ts y rest (inr g) s = subst (λ (l : List Lexeme). Follows (l ++ rest)) (sym g.0) s.0
 
-to_claim : (h : Hypothesis) (ts a b : List Lexeme) (y : Sentence) → ts ≡ a ++ b → IsHypothesis a h → After h b y → IsClaim ts y
-to_claim (plain w) ts a b y e g (inl k) =
+concluded_is : (h : Hypothesis) (ts a b : List Lexeme) (y : Sentence) → ts ≡ a ++ b → IsHypothesis a h → Concluded h b y → IsClaim ts y
+concluded_is h ts a b y e g k =
     let i = ending_is k.0 k.2 y k.5 in
     subst (λ (x : Sentence). IsClaim ts x) (sym (i.4 ∙ ap (λ hs. concluding hs i.1) k.4.2))
     (a ++ k.1, i.0, e ∙ (ap (λ l. a ++ l) (k.3 ∙ ap (λ l. k.1 ++ l) i.2) ∙ sym (append_assoc a k.1 (mark Turnstile ∷ i.0))), (a, k.1, refl, g, k.4.1), i.3)
+
+to_claim : (h : Hypothesis) (ts a b : List Lexeme) (y : Sentence) → ts ≡ a ++ b → IsHypothesis a h → After h b y → IsClaim ts y
+to_claim (plain w) ts a b y e g (inl k) = concluded_is (plain w) ts a b y e g k
+to_claim (sequent x w) ts a b y e g k = concluded_is (sequent x w) ts a b y e g k
 to_claim (plain w) ts a b y e g (inr k) =
     subst (λ (x : Sentence). IsClaim ts x) (sym k.1) (subst (λ (l : List Lexeme). OneTree l w) (sym (e ∙ (ap (λ l. a ++ l) k.0 ∙ append-nil a))) g)
 
 concluded_after : (h : Hypothesis) (ts : List Lexeme) (y : Sentence) → Concluded h ts y → After h ts y
 concluded_after (plain w) ts y g = inl g
+concluded_after (sequent x w) ts y g = g
 
 from_claim : (ts : List Lexeme) (hs : List Hypothesis) (c : Writing) → IsClaim ts (concluding hs c) → Then IsHypothesis After ts (concluding hs c)
 from_claim ts [] c g = (plain c, ts, [], sym (append-nil ts), g, inr (refl, refl))
@@ -122,7 +182,6 @@ Exact-claim =
     Exact-same read_claim (Then IsHypothesis After) IsClaim NoClaim (λ ts y g. to_claim g.0 ts g.1 g.2 y g.3 g.4 g.5) (λ ts y g. from_claim ts y.hyps y.conclusion g)
     (Exact-chain read_hypothesis read_after IsHypothesis After Follows NoClaim Exact-hypothesis exact_after link_after)
 
--- hypotheses and a conclusion, together
-pub claim_stands : (hs : List Hypothesis) (w : Writing) (start mid now : Excess) (hyps : List Hyp) (t : Tree) → Raising (StandsEach StandsHypothesis) (in_each trees_in_hypothesis) start mid hs hyps
-    → Raising StandsTree one_tree mid now w t → Raising StandsClaim trees_in_claim start now (concluding hs w) (record { hyps = hyps; conclusion = t })
-claim_stands hs w start mid now hyps t s r = ((s.0, r.0), r.1 ∙ (ap (raised (w ∷ [])) s.1 ∙ sym (raised-append (in_each trees_in_hypothesis hs) (w ∷ []) start)))
+-- a claim may end the line
+pub claim_ends : NoClaim []
+claim_ends = (tt, tt)

@@ -22,6 +22,10 @@ pub raised-append : (ws vs : List Writing) (e : Excess) → raised (ws ++ vs) e 
 raised-append [] vs e = refl
 raised-append (w ∷ ws) vs e = raised-append ws vs (record { nodes = e.nodes || is_large w; depth = e.depth || is_deep w })
 
+-- the limits that were raised by some trees and then by others
+pub raised_both : (ws vs : List Writing) (start mid now : Excess) → mid ≡ raised ws start → now ≡ raised vs mid → now ≡ raised (ws ++ vs) start
+raised_both ws vs start mid now i j = j ∙ (ap (raised vs) i ∙ sym (raised-append ws vs start))
+
 raised_is : (ws : List Writing) (e : Excess) → raised ws e ≡ record { nodes = e.nodes || list_any is_large ws; depth = e.depth || list_any is_deep ws }
 raised_is [] e = same_excess e (record { nodes = e.nodes || false; depth = e.depth || false }) (or_false e.nodes) (or_false e.depth)
   where

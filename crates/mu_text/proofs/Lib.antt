@@ -1,6 +1,7 @@
 mod Fronts
 mod Longest
 mod Skips
+pub mod Blocks
 pub mod Chains
 pub mod Choice
 pub mod Claims
@@ -10,6 +11,7 @@ pub mod Exact
 pub mod Excesses
 pub mod Facts
 pub mod Groups
+pub mod Heads
 pub mod Kept
 pub mod Limits
 pub mod Lines

@@ -153,8 +153,8 @@ pub fn bound(
     })
 }
 
-// the same trees in a list that has no more room than they need
-fn fitted(alloc: Global, trees: Trees) -> Result<Trees, AllocError>
+/// The same trees in a list that has no more room than they need.
+pub fn fitted(alloc: Global, trees: Trees) -> Result<Trees, AllocError>
     ensures { IfOk result (λ fit. fit ≡ trees) }
 {
     let mut fit = Trees::from_vec(Vec::with_capacity(alloc, trees.len())?);

@@ -10,5 +10,5 @@ mod texts;
 mod tokens;
 
 pub use reader::Reader;
-pub use texts::{are_short, column, read_claim, read_tree, read_why};
+pub use texts::{are_short, column, read_box, read_claim, read_head, read_tree, read_why};
 pub use tokens::{Tokens, is_blank};

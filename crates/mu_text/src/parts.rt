@@ -10,22 +10,26 @@ ghost use Rattle.mu_grammar.specs.Marks.{is_mark};
 ghost use Rattle.mu_grammar.specs.Parts.{Gives, Same, StandsEach, at_end, first_as, starts};
 ghost use Rattle.mu_grammar.specs.SimpleParts.{StandsName, is_number as number_test, is_word as word_test, name_of, kind_of, number_from, number_of, place_of, plain_name_of, read_kind, read_kinds, read_mark, read_meta, read_name, read_place, read_plain_name, read_var, read_vars, read_word};
 
+mod blocks;
 mod claims;
 mod declarations;
+mod expressions;
+mod heads;
 mod reasons;
 mod refs;
-mod trees;
 
 use crate::reader::Reader;
 use crate::tokens::{MOST_DIGITS, split, starts_positive};
+pub use blocks::{any_typed, block, typed, typed_vars};
 pub use claims::claim;
 pub use declarations::declaration;
+pub use expressions::{tree, trees};
+pub use heads::head;
 use mu_grammar::{Mark, PartFault, Sort, Word};
 use mu_tree::{Kind, Kinds, Name, NameFault, Names};
 pub use reasons::{abstraction, abstractions, reason};
 pub use refs::{reference, references};
 use std::alloc::Global;
-pub use trees::tree;
 
 /// A name with these bytes; where they are past the limit of a name, some other name stands in its place.
 ///

@@ -5,7 +5,9 @@ ghost use Rattle.mu_grammar.specs.Tokens.{tokens as tokens_of};
 ghost use Rattle.mu_grammar.specs.Excesses.{one_tree};
 ghost use Rattle.mu_grammar.specs.Writings.{tree_of};
 ghost use Rattle.mu_grammar.specs.Trees.{OneTree};
+ghost use Rattle.mu_grammar.specs.Blocks.{IsBlock, block_of, trees_in_block};
 ghost use Rattle.mu_grammar.specs.Claims.{IsClaim, claim_of, trees_in_claim};
+ghost use Rattle.mu_grammar.specs.Heads.{IsHead, head_of, trees_in_head};
 ghost use Rattle.mu_grammar.specs.Reasons.{IsReason, trees_in_reason, why_of};
 ghost use Rattle.mu_grammar.specs.Texts.{AreWithin, ReadsText, answer as answer_of, column as column_of, column_behind, is_short_token, segments_of, within_limits};
 
@@ -13,7 +15,7 @@ use crate::parts;
 use crate::reader::Reader;
 use crate::tokens::Tokens;
 use mu_grammar::{Excess, PartFault, TextFault, Token, TokenSort, text};
-use mu_tree::{Claim, LimitWord, NoMemory, Tree, Why, is_short};
+use mu_tree::{Claim, LimitWord, Name, NoMemory, OpHead, Tree, Trees, TypedVars, Why, is_short};
 use std::alloc::Global;
 
 /// Whether no segment of the tokens has more bytes than a name may have.
@@ -153,5 +155,39 @@ pub fn read_why(alloc: Global, text: &[u8]) -> Result<Why, TextFault>
     let mut reader = Reader::new(text, tokens.items());
     let mut excess = Excess::none();
     let read = parts::reason(alloc, &mut reader, &mut excess);
+    answer(text, tokens.items(), read, reader.len(), excess)
+}
+
+/// Reads a text as what a box begins with: typed variables where there are any, a bar, and assumptions where there are any.
+///
+/// # Errors
+///
+/// `Syntax` where nothing such is spelled so, else `Limit` where one passes a limit. `NoMemory`.
+#[tactic(auto, using(crate::proofs::Lines::all_within))]
+pub fn read_box(alloc: Global, text: &[u8]) -> Result<(TypedVars, Trees), TextFault>
+    requires { length text.now < 2 ^ 31 }
+    ensures { ReadsText IsBlock trees_in_block block_of text.now result }
+{
+    let tokens = Tokens::read(alloc, text)?;
+    let mut reader = Reader::new(text, tokens.items());
+    let mut excess = Excess::none();
+    let read = parts::block(alloc, &mut reader, &mut excess);
+    answer(text, tokens.items(), read, reader.len(), excess)
+}
+
+/// Reads a text as the head of an operation, or of a function, with its name.
+///
+/// # Errors
+///
+/// `Syntax` where no such head is spelled so, else `Limit` where one passes a limit. `NoMemory`.
+#[tactic(auto, using(crate::proofs::Lines::all_within))]
+pub fn read_head(alloc: Global, text: &[u8], op: bool) -> Result<(Name, OpHead), TextFault>
+    requires { length text.now < 2 ^ 31 }
+    ensures { ReadsText (IsHead op) trees_in_head head_of text.now result }
+{
+    let tokens = Tokens::read(alloc, text)?;
+    let mut reader = Reader::new(text, tokens.items());
+    let mut excess = Excess::none();
+    let read = parts::head(alloc, &mut reader, &mut excess, op);
     answer(text, tokens.items(), read, reader.len(), excess)
 }

@@ -4,6 +4,7 @@
 mod bytes;
 mod claim;
 mod duplicate;
+mod head;
 mod memory;
 mod names;
 mod refusal;
@@ -15,6 +16,7 @@ mod why;
 pub use bytes::{is_letter, is_name_byte};
 pub use claim::{Claim, Definition, Hyp, Hyps, Kind, Kinds, Shape, TypedVar, TypedVars};
 pub use duplicate::Duplicate;
+pub use head::OpHead;
 pub use memory::NoMemory;
 pub use names::{Name, NameFault, Names, is_short};
 pub use refusal::{CountWord, LimitWord, Refusal};

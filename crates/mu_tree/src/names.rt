@@ -8,7 +8,7 @@ ghost use Rattle.mu_tree.specs.Names.{IsName, is_name as name_test, is_segment a
 
 use crate::bytes::{are_name_bytes, is_letter};
 use crate::memory::NoMemory;
-use crate::sequence::Sequence;
+use crate::sequence::{Bytes, Sequence};
 use std::alloc::{AllocError, Global};
 use std::cmp::Ordering;
 use std::marker::Model;
@@ -100,6 +100,13 @@ impl Name {
         ensures name { IsName self.now }
     {
         self.bytes.as_slice()
+    }
+
+    /// The name's bytes, without new memory.
+    pub fn into_bytes(self) -> Bytes
+        ensures { result ≡ self }
+    {
+        Bytes::from_vec(self.bytes)
     }
 
     /// Whether the name has one segment alone.

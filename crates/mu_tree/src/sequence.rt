@@ -1,4 +1,7 @@
-ghost use Rattle.std.specs.Prelude.{◌≡◌, [], ◌∷◌, ◌++◌, ◌↔◌, length, take, IsTrue, IfOk, OnOk, OnErr};
+ghost use Rattle.std.specs.Prelude.{◌≡◌, ◌<◌, ◌≤◌, [], ◌∷◌, ◌++◌, ◌↔◌, Some, length, take, slice_get, remove, IsTrue, IfOk, OnOk, OnErr};
+ghost use Rattle.std.specs.List.{insert};
+ghost use Rattle.std.specs.Borrow.{sem};
+ghost use Rattle.mu_tree.specs.Lending.{LendsItem};
 
 use crate::memory::NoMemory;
 use std::alloc::Global;
@@ -78,6 +81,15 @@ impl<T> Sequence<T> {
         self.items.is_empty()
     }
 
+    /// The item at a place from 0, for a change of it.
+    pub fn at_mut(&mut self, at: usize) -> &mut T
+        requires { at < length self.old }
+        ensures* writes_back { sem 𝓛 (LendsItem T.row self.entry at result) }
+        ensures value { slice_get self.old at ≡ Some result.now }
+    {
+        &mut self.items[at]
+    }
+
     /// The items, in order.
     pub fn items(&self) -> &[T]
         ensures { result.now ≡ self.now }
@@ -117,6 +129,30 @@ impl<T: Drop> Sequence<T> {
             items.push(item)?;
         }
         Ok(Sequence { items })
+    }
+
+    /// Puts an item in at a place from 0, before the one that stands there, or at the end where that is the place.
+    ///
+    /// # Errors
+    ///
+    /// `NoMemory` leaves the list as it was.
+    pub fn insert(&mut self, at: usize, item: T) -> Result<(), NoMemory>
+        requires { at ≤ length self.old }
+        ensures ok { OnOk result (self.new ≡ insert self.old at item) }
+        ensures err { OnErr result (self.new ≡ self.old) }
+    {
+        make_room(&mut self.items)?;
+        self.items.insert(at, item)?;
+        Ok(())
+    }
+
+    /// Takes out the item at a place from 0.
+    pub fn remove(&mut self, at: usize) -> T
+        requires { at < length self.old }
+        ensures item { slice_get self.old at ≡ Some result }
+        ensures rest { self.new ≡ remove self.old at }
+    {
+        self.items.remove(at)
     }
 
     /// Keeps the first `count` items.

@@ -1,5 +1,7 @@
 ghost use Rattle.std.specs.Prelude.{◌≡◌, map, true, false, IfOk, OnOk, OnErr};
-ghost use Rattle.std.specs.Option.{option_copied, unwrap_or};
+ghost use Rattle.std.specs.Borrow.{sem};
+ghost use Rattle.std.specs.Option.{option_copied, option_copied_mut, unwrap_or};
+ghost use Rattle.mu_tree.specs.Lending.{LendsValue};
 ghost use Rattle.std.specs.FinMap as finite;
 ghost use Rattle.std.specs.Map.Iter.{deref_pair};
 
@@ -82,6 +84,14 @@ impl<V> Table<V> {
             entries.push(entry)?;
         }
         Ok(entries)
+    }
+
+    /// The value at a name for a change of it, none exactly where the map has no such name.
+    pub fn get_mut(&mut self, name: &Name) -> Option<&mut V>
+        ensures* writes_back { sem 𝓛 (LendsValue V.row self.entry name.now result) }
+        ensures value { option_copied_mut result ≡ finite.get self.old name.now }
+    {
+        self.entries.get_mut(name)
     }
 
     /// Exchanges the value at a name for another one, where the map has such a name, and says whether it has. It takes

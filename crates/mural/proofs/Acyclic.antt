@@ -1,12 +1,10 @@
 -- After any lines no rule leads back to itself by what its proofs cite.
 use Rattle.std.proofs.Common.{Bool, ◌≡◌, refl, ℕ, true, false, List, [], ◌∷◌, Some, None}
 use Rattle.std.specs.Prelude.{Option, nat_lt, length, if◌then◌else◌}
-use Rattle.std.specs.FinMap as finite
 use Rattle.mu_tree.specs.declared.refusal.Refusal.{Refusal}
 use Rattle.mu_tree.specs.declared.refusal.Refusal.TheVariants.{Limit}
 use Rattle.mu_tree.specs.declared.refusal.LimitWord.{LimitWord}
 use Rattle.mu_grammar.specs.Lexemes.{Lexeme, items_of}
-use Rattle.mu_decl.specs.declared.declaration.Statement.{Statement}
 use Rattle.mu_graph.specs.Circles.{IsAcyclic}
 use Rattle.mu_flat.specs.ProofTables.{leads}
 use Rattle.mu_flat.specs.Entries.{Entries, initial}
@@ -17,8 +15,9 @@ use Rattle.mu_command.specs.declared.readings.Reading.TheVariants as reading
 use Rattle.mu_command.specs.Readings.{reading_of}
 use Rattle.mu_edit.specs.Changes.{refusal}
 use Rattle.mu_edit.proofs.Acyclic.{changed_acyclic}
-use Rattle.mural.specs.Answers.{answer, answered, begins_in_base, carry_out, is_quiet, longest_line, no_command, outcome, past_limit, queried, query, read_out, shows, step, step_by, touches_base}
+use Rattle.mural.specs.Answers.{answer, answered, begins_in_base, carry_out, is_quiet, longest_line, no_command, outcome, past_limit, queried, read_out, step, step_by, touches_base}
 use Rattle.mural.specs.Replies.{entries_after}
+use Rattle.mural.specs.declared.reply.Reply.{Reply}
 use Rattle.mural.specs.declared.reply.Reply.TheVariants.{Refused}
 
 -- no rule of the store leads back to itself
@@ -29,17 +28,13 @@ by_refusal : (e : Entries) (c : Command) → IsSound e → (why : Option Refusal
 by_refusal e c sound None is = changed_acyclic e c sound is
 by_refusal e c sound (Some refused) is = sound
 
-query_sound : (e : Entries) (whole : Bool) (rule : List ℕ) → IsSound e → (found : Option Statement) → IsSound (query e whole rule found).entries
-query_sound e whole rule sound None = sound
-query_sound e whole rule sound (Some s) = sound
-
-stepped_by : (e : Entries) (c : Command) → IsSound e → (rule : Option (List ℕ)) → IsSound (step_by e c rule).entries
-stepped_by e c sound (Some rule) = query_sound e (shows c) rule sound (finite.get e.rules rule)
+stepped_by : (e : Entries) (c : Command) → IsSound e → (reply : Option Reply) → IsSound (step_by e c reply).entries
+stepped_by e c sound (Some reply) = sound
 stepped_by e c sound None = by_refusal e c sound _ refl
 
 stepped : (e : Entries) (c : Command) → IsSound e → IsSound (step e c).entries
 unfolding step
-stepped e c sound = stepped_by e c sound (queried c)
+stepped e c sound = stepped_by e c sound (queried e c)
 
 carried : (e : Entries) (c : Command) → IsSound e → IsSound (carry_out e c).entries
 carried e c sound = elim (touches_base c) as (λ b. IsSound (if b then no_command e 1 else answered (step e c)).entries) [ true ↦ sound | false ↦ stepped e c sound ]

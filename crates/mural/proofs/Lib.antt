@@ -5,6 +5,5 @@ mod Known
 mod Lawful
 mod PageLemmas
 mod Pieces
-mod Queries
 mod Serving
 mod Storable

@@ -1,6 +1,6 @@
 -- The answer to one line: its command carried out on a store, and the reply.
 use Rattle.std.specs.Prelude.{ℕ, Bool, true, false, ◌||◌, ◌&&◌, ◌==◌, nat_lt, if◌then◌else◌, List, [], ◌∷◌, length, Option, Some, None, codes}
-use Rattle.std.specs.Option.{option_map_or}
+use Rattle.std.specs.Option.{option_map, option_map_or}
 use Rattle.std.specs.FinMap as finite
 use Rattle.mu_tree.specs.declared.refusal.Refusal.{Refusal}
 use Rattle.mu_tree.specs.declared.refusal.Refusal.TheVariants.{Syntax, Limit, Unknown}
@@ -12,14 +12,15 @@ use Rattle.mu_grammar.specs.SimpleParts.{is_word, name_of}
 use Rattle.mu_decl.specs.declared.declaration.Statement.{Statement}
 use Rattle.mu_flat.specs.Base.{is_base, is_base_constant}
 use Rattle.mu_flat.specs.Entries.{Entries}
+use Rattle.mu_flat.specs.ProofTables.{proof_at}
 use Rattle.mu_status.specs.Statuses.{status_of}
 use Rattle.mu_command.specs.declared.command.Command.{Command}
-use Rattle.mu_command.specs.declared.command.Command.TheVariants.{Theory, Constant, Axiom, Rule, Status, ShowRule}
+use Rattle.mu_command.specs.declared.command.Command.TheVariants.{Theory, Const, Axiom, Rule, Status, ShowRule, ShowProof}
 use Rattle.mu_command.specs.declared.readings.Reading.{Reading}
 use Rattle.mu_command.specs.declared.readings.Reading.TheVariants as reading
 use Rattle.mu_command.specs.Readings.{reading_of}
 use Rattle.mu_edit.specs.Changes.{refusal, changed}
-use Rattle.mural.specs.Pages.{rule_page, status_page}
+use Rattle.mural.specs.Pages.{proof_page, rule_page, status_page}
 use Rattle.mural.specs.declared.reply.Reply.{Reply}
 use Rattle.mural.specs.declared.reply.Reply.TheVariants.{Accepted, Page, Refused}
 
@@ -40,40 +41,44 @@ refuse entries refused = record { entries = entries; reply = Refused refused }
 abbrev pub page : Entries → Bool → List ℕ → Statement → List ℕ
 page entries whole rule s = if whole then rule_page entries rule s (status_of entries rule s) else status_page rule s (status_of entries rule s)
 
--- the reply to a query for what is stored as a rule under a name
-abbrev pub query : Entries → Bool → List ℕ → Option Statement → Outcome
-query entries whole rule None = refuse entries (Unknown rule)
-query entries whole rule (Some s) = record { entries = entries; reply = Page (page entries whole rule s) }
+-- the page of what is stored as a rule under a name, where something is
+abbrev pub rule_pages : Entries → Bool → List ℕ → Option (List ℕ)
+rule_pages entries whole rule = option_map (page entries whole rule) (finite.get entries.rules rule)
+
+-- the reply to a query for what stands under a name: its page, where there is something
+abbrev pub reply_to : List ℕ × Option (List ℕ) → Reply
+reply_to (name, None) = Refused (Unknown name)
+reply_to (name, Some text) = Page text
+
+-- what a query asks for: the name that must be there, and the page of what stands under it; no other command asks for a page
+abbrev pub asked : Entries → Command → Option (List ℕ × Option (List ℕ))
+asked entries (Status rule) = Some (rule, rule_pages entries false rule)
+asked entries (ShowRule rule) = Some (rule, rule_pages entries true rule)
+asked entries (ShowProof rule proof) = Some (proof, option_map (proof_page entries rule proof) (proof_at entries.proofs rule proof))
+asked entries _ = None
 
 -- the outcome of a change, by the reason for which it is refused
 abbrev pub outcome : Entries → Command → Option Refusal → Outcome
 outcome entries command None = accept (changed entries command)
 outcome entries command (Some refused) = refuse entries refused
 
--- the rule that a command asks for
-abbrev pub queried : Command → Option (List ℕ)
-queried (Status rule) = Some rule
-queried (ShowRule rule) = Some rule
-queried _ = None
-
--- it asks for the whole page of the rule
-abbrev pub shows : Command → Bool
-shows (ShowRule rule) = true
-shows _ = false
-
--- the outcome of a command, by the rule that it asks for: a query has a page, and a change is refused for the first reason that fits or carried out
-abbrev pub step_by : Entries → Command → Option (List ℕ) → Outcome
-step_by entries command (Some rule) = query entries (shows command) rule (finite.get entries.rules rule)
+-- the outcome of a command, by the reply that it has as a query: else a change is refused for the first reason that fits or carried out
+abbrev pub step_by : Entries → Command → Option Reply → Outcome
+step_by entries command (Some reply) = record { entries = entries; reply = reply }
 step_by entries command None = outcome entries command (refusal entries command)
+
+-- the reply to a query; none to a change
+unfoldable pub queried : Entries → Command → Option Reply
+queried entries command = option_map reply_to (asked entries command)
 
 -- the outcome of a command
 unfoldable pub step : Entries → Command → Outcome
-step entries command = step_by entries command (queried command)
+step entries command = step_by entries command (queried entries command)
 
 -- the command would declare the base theory, or something in it, or one of its constants
 abbrev pub touches_base : Command → Bool
 touches_base (Theory unit) = is_base unit
-touches_base (Constant unit name shape result) = is_base unit || is_base_constant name
+touches_base (Const unit name shape result) = is_base unit || is_base_constant name
 touches_base (Axiom unit rule claim) = is_base unit
 touches_base (Rule unit rule claim) = is_base unit
 touches_base _ = false

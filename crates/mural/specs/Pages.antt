@@ -1,9 +1,12 @@
 -- The pages of queries.
-use Rattle.std.specs.Prelude.{ℕ, ◌++◌, List, Option, Some, None, codes, if◌then◌else◌}
+use Rattle.std.specs.Prelude.{ℕ, ◌++◌, List, [], Option, Some, None, codes, if◌then◌else◌}
 use Rattle.std.specs.List.{flat_map}
 use Rattle.std.specs.FinMap as finite
 use Rattle.mu_decl.specs.declared.declaration.Statement.{Statement}
+use Rattle.mu_tree.specs.declared.why.Why.{Why}
 use Rattle.mu_proof.specs.declared.items.Item.{Item}
+use Rattle.mu_proof.specs.declared.items.Item.TheOpen.{Item-F, Line, Block}
+use Rattle.mu_proof.specs.declared.items.Item.TheFolds.{fold-Item}
 use Rattle.mu_check.specs.declared.cause.Cause.{Cause}
 use Rattle.mu_check.specs.declared.cause.Cause.TheVariants.{NoRule, ShadowedVariable, IllFormedBox, ForeignMeta, Unfinished, NoJustification, IllFormedLine, NotAccessible, Absent, NotVisible, IllFormedDefinition, WrongCount, IllFormedInstance, HypothesisDiffers, ConclusionDiffers}
 use Rattle.mu_check.specs.declared.cause.Fault.{Fault}
@@ -12,7 +15,8 @@ use Rattle.mu_flat.specs.ProofTables.{proofs_of}
 use Rattle.mu_flat.specs.Entries.{Entries, world_of}
 use Rattle.mu_status.specs.Statuses.{word_of}
 use Rattle.mu_status.specs.declared.statuses.RuleStatus.{RuleStatus}
-use Rattle.mu_print.specs.Texts.{claim_text}
+use Rattle.mu_print.specs.Canonical.{tree_text}
+use Rattle.mu_print.specs.Texts.{block_text, claim_text, reason_text}
 
 -- the word for a rule: an axiom, or one that wants a proof
 abbrev pub rule_word : Statement → List ℕ
@@ -64,3 +68,23 @@ rule_line rule s status = rule_names rule s ++ (word_of status ++ (codes " : " +
 -- the page of a rule with this statement and status
 abbrev pub rule_page : Entries → List ℕ → Statement → RuleStatus → List ℕ
 rule_page e rule s status = rule_line rule s status ++ (proof_lines e rule ++ codes "end\n")
+
+-- what a line holds by, or that nothing is said of it
+abbrev pub why_text : Option Why → List ℕ
+why_text None = codes "nothing"
+why_text (Some why) = reason_text why
+
+-- an item as it stands in the page of its proof, behind these blanks: a line with what it holds by, or a box and behind it its items, two blanks deeper
+abbrev pub item_step : Item-F (List ℕ → List ℕ) → List ℕ → List ℕ
+item_step (Line label tree why) = λ blanks. blanks ++ (label ++ (codes " : " ++ (tree_text tree ++ (codes " by " ++ (why_text why ++ codes "\n")))))
+item_step (Block label vars assumptions inner) =
+    λ blanks. (blanks ++ (codes "box " ++ (label ++ (codes " : " ++ (block_text vars assumptions ++ codes "\n"))))) ++ flat_map (λ each. each (blanks ++ codes "  ")) inner
+
+-- an item behind these blanks
+unfoldable pub item_text : Item → List ℕ → List ℕ
+item_text = fold-Item (List ℕ → List ℕ) item_step
+
+-- the page of a proof of a rule: its verdict, and its items
+unfoldable pub proof_page : Entries → List ℕ → List ℕ → List Item → List ℕ
+proof_page e rule proof items =
+    codes "proof " ++ (rule ++ (codes " " ++ (proof ++ (verdict_words (verdict (world_of e) rule items) ++ (flat_map (λ each. item_text each []) items ++ codes "end\n")))))

@@ -1,14 +1,15 @@
 ghost use Rattle.std.specs.Prelude.{◌≡◌, false, Some, IfOk, OnErr};
-ghost use Rattle.std.specs.Option.{option_copied};
-ghost use Rattle.std.specs.FinMap as finite;
+ghost use Rattle.std.specs.Option.{option_map};
 ghost use Rattle.mu_command.specs.Plain.{HasPlainNames};
 ghost use Rattle.mu_flat.specs.Entries.{Entries};
 ghost use Rattle.mu_grammar.specs.Lexemes.{items, items_of};
 ghost use Rattle.mu_edit.specs.Changes.{refusal};
 ghost use Rattle.mu_status.specs.Statuses.{status_of};
-ghost use Rattle.mural.specs.Answers.{answer, begins_in_base, carry_out, declares as declaring_test, is_quiet as quiet_test, names_base_constant as base_name_test, outcome, page, past_limit, queried as asked_for, query as query_outcome, shows as shows_test, touches_base as base_test};
+ghost use Rattle.mural.specs.Answers.{answer, begins_in_base, carry_out, declares as declaring_test, is_quiet as quiet_test, names_base_constant as base_name_test, outcome, page, past_limit, queried, reply_to, rule_pages, touches_base as base_test};
+ghost use Rattle.mural.specs.Pages.{proof_page};
+ghost use Rattle.mu_flat.specs.ProofTables.{proof_at};
 
-use crate::pages::{rule_page, status_page};
+use crate::pages::{proof_page, rule_page, status_page};
 use crate::reply::Reply;
 use mu_command::{Command, Reading, read};
 use mu_decl::{Context, Statement};
@@ -135,30 +136,40 @@ fn carry_out(alloc: Global, store: &mut Store, command: Command) -> Result<Reply
     ensures err { OnErr result (store.new ≡ store.old) }
 {
     if touches_base(&command) {
+        discard(command);
         return Ok(no_command(1));
     }
-    if let Some(rule) = queried(&command) {
-        return query(alloc, store, rule, shows(&command));
+    match query(alloc, store, &command) {
+        Ok(None) => change_store(alloc, store, command),
+        Ok(Some(reply)) => {
+            discard(command);
+            Ok(reply)
+        }
+        Err(NoMemory) => {
+            discard(command);
+            Err(NoMemory)
+        }
     }
-    change_store(alloc, store, command)
 }
 
-/// The rule that the command asks for.
-fn queried(command: &Command) -> Option<&Name>
-    ensures { option_copied result ≡ asked_for command.now }
+/// Lets a command go. What a command holds has many shapes: letting it go here alone keeps the proof of its answer short.
+fn discard(_command: Command) {}
+
+/// The reply to a query; none to a change.
+///
+/// # Errors
+///
+/// `NoMemory`.
+#[tactic(auto, unfolding(crate::specs::Answers::queried))]
+fn query(alloc: Global, store: &Store, command: &Command) -> Result<Option<Reply>, NoMemory>
+    ensures { IfOk result (λ reply. reply ≡ queried store.now command.now) }
 {
     match command {
-        Command::Status { rule } => Some(rule),
-        Command::ShowRule { rule } => Some(rule),
-        _ => None,
+        Command::Status(rule) => Ok(Some(ask_rule(alloc, store, rule, false)?)),
+        Command::ShowRule(rule) => Ok(Some(ask_rule(alloc, store, rule, true)?)),
+        Command::ShowProof(rule, proof) => Ok(Some(ask_proof(alloc, store, rule, proof)?)),
+        _ => Ok(None),
     }
-}
-
-/// Whether the command asks for the whole page of a rule.
-fn shows(command: &Command) -> bool
-    ensures { result ≡ shows_test command.now }
-{
-    matches!(command, Command::ShowRule { .. })
 }
 
 /// Carries out a change.
@@ -184,11 +195,11 @@ fn touches_base(command: &Command) -> bool
     ensures { result ≡ base_test command.now }
 {
     match command {
-        Command::Theory { unit } => is_base(unit.bytes()),
-        Command::Constant { unit, name, .. } => {
+        Command::Theory(unit) => is_base(unit.bytes()),
+        Command::Const(unit, name, _, _) => {
             is_base(unit.bytes()) || is_base_constant(name.bytes())
         }
-        Command::Axiom { unit, .. } | Command::Rule { unit, .. } => is_base(unit.bytes()),
+        Command::Axiom(unit, _, _) | Command::Rule(unit, _, _) => is_base(unit.bytes()),
         _ => false,
     }
 }
@@ -198,8 +209,8 @@ fn touches_base(command: &Command) -> bool
 /// # Errors
 ///
 /// `NoMemory`.
-fn query(alloc: Global, store: &Store, rule: &Name, whole: bool) -> Result<Reply, NoMemory>
-    ensures { IfOk result (λ reply. query_outcome store.now whole rule.now (finite.get store.now.rules rule.now) ≡ record { entries = store.now; reply = reply }) }
+fn ask_rule(alloc: Global, store: &Store, rule: &Name, whole: bool) -> Result<Reply, NoMemory>
+    ensures { IfOk result (λ reply. reply ≡ reply_to (rule.now, rule_pages store.now whole rule.now)) }
 {
     let mut work = Work::new();
     match (store.rule(rule), status(alloc, store, rule, &mut work)?) {
@@ -207,7 +218,28 @@ fn query(alloc: Global, store: &Store, rule: &Name, whole: bool) -> Result<Reply
             let text = page(alloc, store, rule, statement, status, whole)?;
             Ok(Reply::Page(text))
         }
-        _ => Ok(Reply::Refused(Refusal::Unknown(rule.copy(alloc)?))),
+        _ => unknown(alloc, rule),
+    }
+}
+
+/// The reply that nothing stands under a name.
+fn unknown(alloc: Global, name: &Name) -> Result<Reply, NoMemory>
+    ensures { IfOk result (λ reply. reply ≡ Reply.Refused (Refusal.Unknown name.now)) }
+{
+    Ok(Reply::Refused(Refusal::Unknown(name.copy(alloc)?.into_bytes())))
+}
+
+/// A proof, item by item, with its verdict.
+///
+/// # Errors
+///
+/// `NoMemory`.
+fn ask_proof(alloc: Global, store: &Store, rule: &Name, proof: &Name) -> Result<Reply, NoMemory>
+    ensures { IfOk result (λ reply. reply ≡ reply_to (proof.now, option_map (proof_page store.now rule.now proof.now) (proof_at store.now.proofs rule.now proof.now))) }
+{
+    match store.proofs().find(rule, proof) {
+        Some(found) => Ok(Reply::Page(proof_page(alloc, store, rule, proof, found)?)),
+        None => unknown(alloc, proof),
     }
 }
 

@@ -1,17 +1,20 @@
-ghost use Rattle.std.specs.Prelude.{◌≡◌, ◌++◌, map, IfOk, OnOk};
+ghost use Rattle.std.specs.Prelude.{◌≡◌, ◌++◌, codes, map, IfOk, OnOk};
 ghost use Rattle.std.specs.FinMap as finite;
 ghost use Rattle.std.specs.List.{flat_map};
 ghost use Rattle.mu_check.specs.Goals.{IsChecker};
 ghost use Rattle.mu_flat.specs.Entries.{world_of};
-ghost use Rattle.mural.specs.Pages.{cause_word, proof_line, proof_lines, rule_line, rule_names, rule_page, rule_word, status_page, verdict_words};
+ghost use Rattle.mu_check.specs.Verdicts.{verdict};
+ghost use Rattle.mu_print.specs.Canonical.{tree_text};
+ghost use Rattle.mu_print.specs.Texts.{block_text};
+ghost use Rattle.mural.specs.Pages.{cause_word, item_text, proof_line, proof_lines, proof_page, rule_line, rule_names, rule_page, rule_word, status_page, verdict_words, why_text};
 
-use mu_check::{Cause, Checker, Fault};
+use mu_check::{Cause, Checker, Fault, Verdict, check_proof};
 use mu_decl::Statement;
 use mu_flat::Store;
-use mu_proof::Proof;
+use mu_proof::{Item, Proof};
 use mu_status::RuleStatus;
 use mu_tables::Work;
-use mu_tree::{Bytes, Name, NoMemory, Table};
+use mu_tree::{Bytes, Name, NoMemory, Table, Tree, Trees, TypedVars, Why};
 use std::alloc::{AllocError, Global};
 
 /// The page that tells the status of a rule with this statement.
@@ -120,16 +123,23 @@ fn add_each(
 {
     let mut work = Work::new();
     let mut checker = Checker::new(alloc, store, rule)?;
+    add_checked(alloc, page, store, proofs, &mut checker, &mut work)
+}
+
+/// Adds a line for each of some proofs of the checker's rule.
+fn add_checked(
+    alloc: Global,
+    page: &mut Vec<u8>,
+    store: &Store,
+    proofs: &Table<Proof>,
+    checker: &mut Checker,
+    work: &mut Work,
+) -> Result<(), NoMemory>
+    requires { IsChecker (world_of store.now) checker.old }
+    ensures { OnOk result (page.new.items ≡ page.old.items ++ flat_map (proof_line store.now checker.old.rule) (finite.entries proofs.now)) }
+{
     for entry in proofs.entries(alloc)? {
-        add_proof(
-            alloc,
-            page,
-            store,
-            entry.0,
-            entry.1,
-            &mut checker,
-            &mut work,
-        )?;
+        add_proof(alloc, page, store, entry.0, entry.1, checker, work)?;
     }
     Ok(())
 }
@@ -151,11 +161,159 @@ fn add_proof(
 {
     page.extend_from_slice(b"proof ")?;
     page.extend_from_slice(name.bytes())?;
-    match checker.check(alloc, store, proof, work)? {
-        Some(fault) => add_fault(page, &fault)?,
-        None => page.extend_from_slice(b" checks\n")?,
+    let found = checker.check(alloc, store, proof, work)?;
+    add_told(page, &found)?;
+    Ok(())
+}
+
+/// The page of a proof of a rule: its verdict and its items.
+///
+/// # Errors
+///
+/// `NoMemory`.
+#[tactic(auto, using(std::proofs::Common::append_assoc), unfolding(crate::specs::Pages::proof_page))]
+pub(crate) fn proof_page(
+    alloc: Global,
+    store: &Store,
+    rule: &Name,
+    name: &Name,
+    proof: &Proof,
+) -> Result<Bytes, NoMemory>
+    ensures { IfOk result (λ page. page ≡ proof_page store.now rule.now name.now proof.now) }
+{
+    let mut page = Vec::from_slice(alloc, b"proof ")?;
+    page.extend_from_slice(rule.bytes())?;
+    page.push(b' ')?;
+    page.extend_from_slice(name.bytes())?;
+    add_verdict(alloc, &mut page, store, rule, proof)?;
+    add_items(alloc, &mut page, b"", proof.items())?;
+    page.extend_from_slice(b"end\n")?;
+    Ok(Bytes::from_vec(page))
+}
+
+/// Adds what is told of the verdict of a proof of a rule.
+fn add_verdict(
+    alloc: Global,
+    page: &mut Vec<u8>,
+    store: &Store,
+    rule: &Name,
+    proof: &Proof,
+) -> Result<(), NoMemory>
+    ensures { OnOk result (page.new.items ≡ page.old.items ++ verdict_words (verdict (world_of store.now) rule.now proof.now)) }
+{
+    let mut work = Work::new();
+    let found = check_proof(alloc, store, proof, rule, &mut work)?;
+    add_told(page, &found)?;
+    Ok(())
+}
+
+/// Adds what is told of a verdict.
+fn add_told(page: &mut Vec<u8>, found: &Verdict) -> Result<(), AllocError>
+    ensures { OnOk result (page.new.items ≡ page.old.items ++ verdict_words found.now) }
+{
+    match found {
+        Some(fault) => add_fault(page, fault),
+        None => page.extend_from_slice(b" checks\n"),
+    }
+}
+
+/// Adds items behind these blanks.
+#[cycle(add_item)]
+fn add_items(
+    alloc: Global,
+    page: &mut Vec<u8>,
+    blanks: &[u8],
+    items: &[Item],
+) -> Result<(), AllocError>
+    ensures { OnOk result (page.new.items ≡ page.old.items ++ flat_map (λ each. item_text each blanks.now) items.now) }
+{
+    for item in items {
+        add_item(alloc, page, blanks, item)?;
     }
     Ok(())
+}
+
+/// Adds an item behind these blanks: a line, or a box and its items, two blanks deeper.
+#[cycle(add_item)]
+#[tactic(auto, using(std::proofs::Common::append_assoc, crate::proofs::PageLemmas::item_equations))]
+fn add_item(alloc: Global, page: &mut Vec<u8>, blanks: &[u8], item: &Item) -> Result<(), AllocError>
+    ensures { OnOk result (page.new.items ≡ page.old.items ++ item_text item.now blanks.now) }
+{
+    match item {
+        Item::Line { label, tree, why } => {
+            add_line(page, blanks, label, tree, why)?;
+            Ok(())
+        }
+        Item::Block {
+            label,
+            vars,
+            assumptions,
+            items,
+        } => {
+            add_head(page, blanks, label, vars, assumptions)?;
+            let deeper = deeper(alloc, blanks)?;
+            add_items(alloc, page, &deeper, items.items())?;
+            Ok(())
+        }
+    }
+}
+
+/// Two blanks more.
+fn deeper(alloc: Global, blanks: &[u8]) -> Result<Vec<u8>, AllocError>
+    ensures { IfOk result (λ more. more.items ≡ blanks.now ++ codes "  ") }
+{
+    let mut more = Vec::from_slice(alloc, blanks)?;
+    more.extend_from_slice(b"  ")?;
+    Ok(more)
+}
+
+/// Adds a line behind these blanks.
+#[tactic(auto, using(std::proofs::Common::append_assoc))]
+fn add_line(
+    page: &mut Vec<u8>,
+    blanks: &[u8],
+    label: &Name,
+    tree: &Tree,
+    why: &Option<Why>,
+) -> Result<(), AllocError>
+    ensures { OnOk result (page.new.items ≡ page.old.items ++ (blanks.now ++ (label.now ++ (codes " : " ++ (tree_text tree.now ++ (codes " by " ++ (why_text why.now ++ codes "\n"))))))) }
+{
+    page.extend_from_slice(blanks)?;
+    page.extend_from_slice(label.bytes())?;
+    page.extend_from_slice(b" : ")?;
+    mu_print::tree(page, tree)?;
+    page.extend_from_slice(b" by ")?;
+    add_why(page, why)?;
+    page.extend_from_slice(b"\n")
+}
+
+/// Adds what a line holds by, or that nothing is said of it.
+fn add_why(page: &mut Vec<u8>, why: &Option<Why>) -> Result<(), AllocError>
+    ensures { OnOk result (page.new.items ≡ page.old.items ++ why_text why.now) }
+{
+    match why {
+        Some(reason) => mu_print::reason(page, reason),
+        None => page.extend_from_slice(b"nothing"),
+    }
+}
+
+/// Adds the line that a box begins with, behind these blanks.
+#[tactic(auto, using(std::proofs::Common::append_assoc))]
+fn add_head(
+    page: &mut Vec<u8>,
+    blanks: &[u8],
+    label: &Name,
+    vars: &TypedVars,
+    assumptions: &Trees,
+) -> Result<(), AllocError>
+    ensures { OnOk result (page.new.items ≡ page.old.items ++ (blanks.now ++ (codes "box " ++ (label.now ++ (codes " : " ++ (block_text vars.now assumptions.now ++ codes "\n")))))) }
+{
+    page.extend_from_slice(blanks)?;
+    page.extend_from_slice(b"box ")?;
+    page.extend_from_slice(label.bytes())?;
+    page.extend_from_slice(b" : ")?;
+    mu_print::block(page, vars.items(), assumptions.as_slice())?;
+    page.extend_from_slice(b"\n")
 }
 
 /// Adds what is told of a fault.

@@ -1,18 +1,17 @@
 ghost use Rattle.std.specs.Prelude.{◌≡◌};
 ghost use Rattle.mu_grammar.specs.declared.excess.Excess.{Excess};
 ghost use Rattle.mu_grammar.specs.Parts.{Gives, StandsEach, starts};
-ghost use Rattle.mu_grammar.specs.Excesses.{Raising, in_each};
-ghost use Rattle.mu_grammar.specs.Claims.{Hypothesis, StandsHypothesis, StandsClaim, trees_in_hypothesis, trees_in_claim, goes_on, read_hypothesis, read_hypotheses, read_concluded, read_after, read_claim};
+ghost use Rattle.mu_grammar.specs.Excesses.{Raising, StandsTree, in_each, one_tree};
+ghost use Rattle.mu_grammar.specs.Claims.{Hypothesis, StandsHypothesis, StandsClaim, trees_in_hypothesis, trees_in_claim, goes_on, read_upshot, read_sequent, read_hypothesis, read_hypotheses, read_concluded, read_after, read_claim};
 
-use crate::parts::trees::tree;
-use crate::parts::{mark, sees};
+use crate::parts::{block, mark, sees, tree};
 use crate::reader::Reader;
 use mu_grammar::{Excess, Mark, PartFault};
-use mu_tree::{Claim, Hyp, Hyps};
+use mu_tree::{Claim, Hyp, Hyps, Tree};
 use std::alloc::Global;
 
-/// Reads a claim: a tree; or trees with semicolons between them, a turnstile, and a tree. The limits that its trees pass are
-/// raised.
+/// Reads a claim: a tree; or hypotheses with semicolons between them, a turnstile, and a tree. The limits that its trees pass
+/// are raised.
 ///
 /// # Errors
 ///
@@ -34,15 +33,13 @@ fn after_first(
 ) -> Result<Claim, PartFault>
     ensures { (h : Hypothesis) (start : Excess) → Raising StandsHypothesis trees_in_hypothesis start excess.old h first → Gives (Raising StandsClaim trees_in_claim start excess.new) (read_after h reader.old) result reader.new }
 {
-    if goes_on(reader) {
-        return concluded(alloc, reader, excess, first);
-    }
+    let is_alone = !goes_on(reader);
     match first {
-        Hyp::Plain(conclusion) => Ok(Claim {
+        Hyp::Plain(conclusion) if is_alone => Ok(Claim {
             hyps: Hyps::new(alloc),
             conclusion,
         }),
-        Hyp::Sequent { .. } => Err(PartFault::Mismatch),
+        first => concluded(alloc, reader, excess, first),
     }
 }
 
@@ -53,6 +50,7 @@ fn goes_on(reader: &Reader) -> bool
 }
 
 /// Reads the hypotheses behind the first one, the turnstile and the conclusion.
+#[tactic(auto, using(crate::proofs::Excesses::raised_both))]
 fn concluded(
     alloc: Global,
     reader: &mut Reader,
@@ -86,11 +84,40 @@ fn hypotheses(
     Ok(hyps.fit(alloc)?)
 }
 
-/// Reads a hypothesis: a tree.
+/// Reads a hypothesis: a tree or a sequent.
 #[tactic(auto, unfolding(mu_grammar::specs::Claims::read_hypothesis))]
 fn hypothesis(alloc: Global, reader: &mut Reader, excess: &mut Excess) -> Result<Hyp, PartFault>
     ensures { Gives (Raising StandsHypothesis trees_in_hypothesis excess.old excess.new) (read_hypothesis reader.old) result reader.new }
 {
+    if sees(reader, Mark::OpenBrace) {
+        return sequent(alloc, reader, excess);
+    }
     let tree = tree(alloc, reader, excess)?;
     Ok(Hyp::Plain(tree))
+}
+
+/// Reads a sequent: in braces what a block begins with, a turnstile, and the upshot.
+#[tactic(auto, using(crate::proofs::Excesses::raised_both), unfolding(mu_grammar::specs::Claims::read_sequent))]
+fn sequent(alloc: Global, reader: &mut Reader, excess: &mut Excess) -> Result<Hyp, PartFault>
+    ensures { Gives (Raising StandsHypothesis trees_in_hypothesis excess.old excess.new) (read_sequent reader.old) result reader.new }
+{
+    mark(reader, Mark::OpenBrace)?;
+    let (vars, premises) = block(alloc, reader, excess)?;
+    let upshot = upshot(alloc, reader, excess)?;
+    Ok(Hyp::Sequent {
+        vars,
+        premises,
+        upshot,
+    })
+}
+
+/// Reads the turnstile, the upshot of a sequent and the brace that closes it.
+#[tactic(auto, unfolding(mu_grammar::specs::Claims::read_upshot))]
+fn upshot(alloc: Global, reader: &mut Reader, excess: &mut Excess) -> Result<Tree, PartFault>
+    ensures { Gives (Raising StandsTree one_tree excess.old excess.new) (read_upshot reader.old) result reader.new }
+{
+    mark(reader, Mark::Turnstile)?;
+    let upshot = tree(alloc, reader, excess)?;
+    mark(reader, Mark::CloseBrace)?;
+    Ok(upshot)
 }

@@ -1,14 +1,18 @@
+mod boxes;
 mod calls;
 mod examples;
 mod pages;
+mod reasons;
 mod transcripts;
 mod trees;
 
 use super::*;
-use examples::{FIRST, FIRST_REPLIES, examples};
+use boxes::boxes;
+use examples::{examples, first};
 use mu_outside::{Desk, Faults};
 use mu_tree::{Bytes, NoMemory, Numbers};
 use pages::pages;
+use reasons::reasons;
 use std::test::Fail;
 use transcripts::transcripts;
 use trees::trees;
@@ -70,7 +74,7 @@ impl Outside for Blanks {
 
 #[test]
 fn takes_no_words(rt: HostRuntime) -> Result<(), Fail> {
-    let mut desk = desk(rt.alloc(), FIRST, &[], &[])?;
+    let mut desk = desk(rt.alloc(), first::COMMANDS, &[], &[])?;
     let words = vec![in rt.alloc(); String::from_str(rt.alloc(), "j")?]?;
     assert_eq!(rt; run(rt.alloc(), words.as_slice(), &mut desk), Status::Usage);
     assert!(rt; desk.told().is_empty());
@@ -81,8 +85,8 @@ fn takes_no_words(rt: HostRuntime) -> Result<(), Fail> {
 #[test]
 fn stops_at_a_call_that_fails(rt: HostRuntime) -> Result<(), Fail> {
     let alloc = rt.alloc();
-    for (number, told) in [(1, 0), (2, FIRST_REPLIES.len())] {
-        let mut desk = desk(alloc, FIRST, &[number], &[])?;
+    for (number, told) in [(1, 0), (2, first::REPLIES.len())] {
+        let mut desk = desk(alloc, first::COMMANDS, &[number], &[])?;
         assert_eq!(rt;
             run(alloc, &[], &mut desk),
             Status::ReadFault,
@@ -91,7 +95,7 @@ fn stops_at_a_call_that_fails(rt: HostRuntime) -> Result<(), Fail> {
         assert_eq!(rt; desk.told().len(), told, "take {number}");
     }
     for (number, told) in [(1, 0), (2, 3), (3, 6), (4, 9)] {
-        let mut desk = desk(alloc, FIRST, &[], &[number])?;
+        let mut desk = desk(alloc, first::COMMANDS, &[], &[number])?;
         assert_eq!(rt;
             run(alloc, &[], &mut desk),
             Status::TellFault,
@@ -105,11 +109,11 @@ fn stops_at_a_call_that_fails(rt: HostRuntime) -> Result<(), Fail> {
 #[test]
 fn moves_one_byte_at_a_time(rt: HostRuntime) -> Result<(), Fail> {
     let mut drip = Drip {
-        desk: desk(rt.alloc(), FIRST, &[], &[])?,
+        desk: desk(rt.alloc(), first::COMMANDS, &[], &[])?,
     };
     assert_eq!(rt; run(rt.alloc(), &[], &mut drip), Status::AllAccepted);
     let Drip { desk } = drip;
-    assert!(rt; desk.told() == FIRST_REPLIES);
+    assert!(rt; desk.told() == first::REPLIES);
     Ok(())
 }
 
@@ -136,23 +140,28 @@ fn is_right(alloc: Global, transcript: &[u8]) -> Result<bool, NoMemory> {
     is_told(alloc, &input, &replies)
 }
 
+/// The first of some transcripts that is not right.
+fn first_wrong(alloc: Global, transcripts: &[&[u8]]) -> Result<Option<usize>, NoMemory> {
+    for (number, transcript) in transcripts.iter().enumerate() {
+        if !is_right(alloc, transcript)? {
+            return Ok(Some(number));
+        }
+    }
+    Ok(None)
+}
+
 #[test]
 fn answers_as_in_the_transcripts(rt: HostRuntime) -> Result<(), Fail> {
-    for (number, transcript) in transcripts().iter().enumerate() {
-        assert!(rt; is_right(rt.alloc(), transcript)?, "transcript {number}");
-    }
-    for (number, transcript) in trees().iter().enumerate() {
-        assert!(rt;
-            is_right(rt.alloc(), transcript)?,
-            "transcript {number} on trees"
-        );
-    }
-    for (number, transcript) in pages().iter().enumerate() {
-        assert!(rt;
-            is_right(rt.alloc(), transcript)?,
-            "transcript {number} on pages"
-        );
-    }
+    let alloc = rt.alloc();
+    assert_eq!(rt; first_wrong(alloc, &transcripts())?, None, "transcripts");
+    assert_eq!(rt; first_wrong(alloc, &trees())?, None, "transcripts on trees");
+    assert_eq!(rt; first_wrong(alloc, &pages())?, None, "transcripts on pages");
+    assert_eq!(rt; first_wrong(alloc, &boxes())?, None, "transcripts on boxes");
+    assert_eq!(rt;
+        first_wrong(alloc, &reasons())?,
+        None,
+        "transcripts on reasons"
+    );
     Ok(())
 }
 
@@ -164,13 +173,27 @@ fn answers_as_in_the_examples(rt: HostRuntime) -> Result<(), Fail> {
     Ok(())
 }
 
+/// Adds a proof of 32 boxes, each but the first in the one before.
+fn add_boxes(input: &mut String, replies: &mut String) -> Result<(), NoMemory> {
+    input.push_str("proof r m\nbox r m b1 in root : |\n")?;
+    replies.push_str("ok\nok\n")?;
+    for number in 1u32..32 {
+        writeln!(input, "box r m b{} in b{number} : |", number + 1)?;
+        replies.push_str("ok\n")?;
+    }
+    Ok(())
+}
+
 #[test]
-fn refuses_one_line_more_than_a_proof_has(rt: HostRuntime) -> Result<(), Fail> {
+fn refuses_more_than_a_proof_has(rt: HostRuntime) -> Result<(), Fail> {
     let alloc = rt.alloc();
-    let mut input = String::from_str(alloc, "proof r m\n")?;
-    let mut replies = String::from_str(alloc, "ok\n")?;
-    for number in 0u32..4096 {
-        writeln!(input, "line r m l{number} in root : p")?;
+    let mut input = String::new(alloc);
+    let mut replies = String::new(alloc);
+    add_boxes(&mut input, &mut replies)?;
+    input.push_str(ONE_DEEPER)?;
+    replies.push_str(ONE_DEEPER_REPLIES)?;
+    for number in 0u32..4062 {
+        writeln!(input, "line r m l{number} in b1 : p")?;
         replies.push_str("ok\n")?;
     }
     input.push_str(ONE_MORE)?;
@@ -179,17 +202,43 @@ fn refuses_one_line_more_than_a_proof_has(rt: HostRuntime) -> Result<(), Fail> {
     Ok(())
 }
 
+const ONE_DEEPER: &str = "\
+box r m c in b32 : |
+box r m c in b32 : x:N, x:N |
+box r m b1 in b32 : x:N, x:N |
+box r m b1 in b32 before d : |
+box r m c in b31 before b32 : |
+box r m d in c : |
+line r m l in c : p
+";
+
+const ONE_DEEPER_REPLIES: &str = "\
+refused too-many boxes
+refused taken x
+refused taken b1
+refused unknown d
+ok
+refused too-many boxes
+ok
+";
+
 const ONE_MORE: &str = "\
-line r m l in root : p
+line r m k in root : p
+box r m k in root : |
+box r m k in b32 : |
+box r m k in root : x:N, x:N |
 line r m l0 in root : p
-line r m l in root before l : p
-line r m l in l0 : p
+line r m k in root before k : p
+line r m k in l0 : p
 ";
 
 const ONE_MORE_REPLIES: &str = "\
 refused too-many items
+refused too-many items
+refused too-many boxes
+refused taken x
 refused taken l0
-refused unknown l
+refused unknown k
 refused unknown l0
 ";
 

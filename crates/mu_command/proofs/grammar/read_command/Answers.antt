@@ -1,31 +1,23 @@
-use Rattle.std.proofs.Common.{refl}
-use Rattle.mu_command.specs.declared.forms.Form.TheVariants.{Theory, Constant, Axiom, Rule, Proof, Line, Cite, Status, ShowRule}
-use Rattle.mu_command.proofs.FormLemmas.{form_then, form_alone}
+use Rattle.std.proofs.Common.{◌≡◌, List, rules, subst}
+use Rattle.std.specs.Prelude.{Ok, Err}
+use Rattle.mu_command.specs.declared.parts.Part.{Part}
+use Rattle.mu_command.specs.Grammar.{GivesRow}
+use Rattle.mu_command.proofs.FormLemmas.{command_made, command_stops, form_stops}
 use Rattle.mu_command.proofs.grammar.read_command.Goals as goal
 
-pub returns-in-Theory : goal.returns-in-Theory
-returns-in-Theory c = form_alone Theory (λ v. refl) _ _ _ _ _ (rw c.in-Theory.is at c.in_ok-read_form.ensures) c.read_theory.ensures
+pub returns-in_err-form : goal.returns-in_err-form
+returns-in_err-form c =
+    let is : c.from_residual.result ≡ Err c.in_err-form.field-0.0 = search rules in
+    rw is (form_stops c.args.excess.now c.args.excess.now _ _ _ c.in_err-form.ensures)
 
-pub returns-in-Constant : goal.returns-in-Constant
-returns-in-Constant c = form_alone Constant (λ v. refl) _ _ _ _ _ (rw c.in-Constant.is at c.in_ok-read_form.ensures) c.read_constant.ensures
+pub returns-in_err-fields : goal.returns-in_err-fields
+returns-in_err-fields c =
+    let is : c.from_residual-in_err-fields.result ≡ Err c.in_err-fields.field-0.0 = search rules in
+    rw is (command_stops c.in_ok-form.form c.args.excess.now c.read_row.new.excess _ c.read_form.new.reader _ _ c.in_ok-form.ensures
+        (subst (λ (parts : List Part). GivesRow parts c.args.excess.now c.read_row.new.excess c.read_form.new.reader (Err c.in_err-fields.field-0.0) c.read_row.new.reader) c.row.ensures c.in_err-fields.ensures))
 
-pub returns-in-Axiom : goal.returns-in-Axiom
-returns-in-Axiom c = form_then Axiom _ _ _ _ _ _ (rw c.in-Axiom.is at c.in_ok-read_form.ensures) c.read_axiom.ensures
-
-pub returns-in-Rule : goal.returns-in-Rule
-returns-in-Rule c = form_then Rule _ _ _ _ _ _ (rw c.in-Rule.is at c.in_ok-read_form.ensures) c.read_rule.ensures
-
-pub returns-in-Proof : goal.returns-in-Proof
-returns-in-Proof c = form_alone Proof (λ v. refl) _ _ _ _ _ (rw c.in-Proof.is at c.in_ok-read_form.ensures) c.read_proof.ensures
-
-pub returns-in-Line : goal.returns-in-Line
-returns-in-Line c = form_then Line _ _ _ _ _ _ (rw c.in-Line.is at c.in_ok-read_form.ensures) c.read_line.ensures
-
-pub returns-in-Cite : goal.returns-in-Cite
-returns-in-Cite c = form_then Cite _ _ _ _ _ _ (rw c.in-Cite.is at c.in_ok-read_form.ensures) c.read_cite.ensures
-
-pub returns-in-Status : goal.returns-in-Status
-returns-in-Status c = form_alone Status (λ v. refl) _ _ _ _ _ (rw c.in-Status.is at c.in_ok-read_form.ensures) c.read_status.ensures
-
-pub returns-in-ShowRule : goal.returns-in-ShowRule
-returns-in-ShowRule c = form_alone ShowRule (λ v. refl) _ _ _ _ _ (rw c.in-ShowRule.is at c.in_ok-read_form.ensures) c.read_show_rule.ensures
+pub returns : goal.returns
+returns c =
+    command_made c.in_ok-form.form c.args.excess.now c.read_row.new.excess _ c.read_form.new.reader _ c.in_ok-fields.fields c.make.result c.in_ok-form.ensures
+    (subst (λ (parts : List Part). GivesRow parts c.args.excess.now c.read_row.new.excess c.read_form.new.reader (Ok c.in_ok-fields.fields) c.read_row.new.reader) c.row.ensures c.in_ok-fields.ensures)
+    c.make.ensures.form c.make.ensures.fields

@@ -1,20 +1,22 @@
-use Rattle.std.proofs.Common.{rules, ◌≡◌, length}
+use Rattle.std.proofs.Common.{rules, ◌≡◌, List, length, subst}
+use Rattle.std.specs.Prelude.{IfOk}
+use Rattle.std.specs.List.{list_all}
+use Rattle.mu_grammar.specs.declared.token.Token.{Token}
 use Rattle.mu_grammar.specs.Excesses.{no_excess}
 use Rattle.mu_grammar.specs.Lexemes.{items_of}
 use Rattle.mu_grammar.specs.Tokens.{tokens}
-use Rattle.mu_grammar.specs.Texts.{has_short_tokens}
+use Rattle.mu_grammar.specs.Texts.{is_short_token}
 use Rattle.mu_command.specs.Canonical.{is_long}
-use Rattle.mu_command.specs.Readings.{first_limit, or_text}
-use Rattle.mu_command.proofs.Lines.{read_value}
+use Rattle.mu_command.specs.Readings.{first_limit, or_text, within_limits}
+use Rattle.mu_command.proofs.Lines.{read_within}
 use Rattle.mu_command.proofs.readings.read.Goals as goal
 
 pub returns-then-len-eq0-clause-value : goal.returns-then-len-eq0-clause-value
 returns-then-len-eq0-clause-value c =
-    let same : c.new-reader.result ≡ items_of c.args.line.now = search rules in
-    let are : c.items-then-len-eq0.result.now ≡ tokens c.args.line.now = search rules in
+    let line = c.args.line.now in
+    let same : c.new-reader.result ≡ items_of line = search rules in
+    let are : c.items-then-len-eq0.result.now ≡ tokens line = search rules in
     let fresh : c.none-excess.result ≡ no_excess = search rules in
     let none : length c.read_command.new.reader ≡ 0 = search rules in
-    let short : c.are_short.result ≡ has_short_tokens c.args.line.now = rw are at c.are_short.ensures in
-    let first : c.first_limit-first.result ≡ first_limit (has_short_tokens c.args.line.now) c.read_command.new.excess = rw short at c.first_limit-first.ensures in
-    let passed : c.in_ok-passed-in-Ok.passed ≡ or_text (first_limit (has_short_tokens c.args.line.now) c.read_command.new.excess) (is_long c.in-Ok.command) = rw first at c.in_ok-passed-in-Ok.ensures in
-    read_value c.args.line.now c.in-Ok.command _ c.read_command.new.reader _ (rw (same, fresh) at c.in-Ok.ensures) none (rw passed at c.within_limits.ensures)
+    read_within line c.in-Ok.command c.read_command.new.excess c.read_command.new.reader c.within.result (rw (same, fresh) at c.in-Ok.ensures) none
+    (subst (λ (ts : List Token). IfOk c.within.result (λ reading. reading ≡ within_limits (or_text (first_limit (list_all (is_short_token line) ts) c.read_command.new.excess) (is_long c.in-Ok.command)) c.in-Ok.command)) are c.within.ensures)

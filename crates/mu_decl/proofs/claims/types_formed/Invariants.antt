@@ -5,6 +5,6 @@ use Rattle.mu_decl.proofs.claims.types_formed.Given as goal
 
 abbrev pub invariant-loop-var : goal.invariant-loop-var
 invariant-loop-var g l = record {
-  formed : types_formed (g.C.Context.world l.context) l.seen l.initial.scope l.vars ≡ types_formed (g.C.Context.world l.context) l.seen l.scope (drop l.var-index l.vars);
-  entered : l.scope ≡ l.initial.scope ++ map expression (names_of (take l.var-index l.vars));
+  formed : types_formed (g.C.Context.world l.context) l.seen (map expression l.scope ++ map expression l.initial.own) l.vars ≡ types_formed (g.C.Context.world l.context) l.seen (map expression l.scope ++ map expression l.own) (drop l.var-index l.vars);
+  entered : l.own ≡ l.initial.own ++ names_of (take l.var-index l.vars);
 }

@@ -3,12 +3,13 @@
 ghost use Rattle.std.specs.Prelude.{◌<◌, ◌^◌, length};
 
 use mu_decl::{
-    Abstraction, Bare, Bares, DeltaRule, delta_of, enter, instantiate, opened, same, translate,
-    unfolded,
+    Abstraction, Bare, Bares, Binders, DeltaRule, Variables, delta_of, enter, instantiate, opened,
+    same, translate, unfolded,
 };
-use mu_print::{print_claim, print_tree, print_why};
-use mu_text::{read_claim, read_tree, read_why};
-use mu_tree::{Definition, Name, Names, Table};
+use mu_grammar::TextFault;
+use mu_print::{print_box, print_claim, print_head, print_tree, print_why};
+use mu_text::{read_box, read_claim, read_head, read_tree, read_why};
+use mu_tree::{Bytes, Definition, Name, Names, Table};
 use std::alloc::Global;
 use std::test::Fail;
 
@@ -30,22 +31,58 @@ fn reads_and_prints_parts(rt: HostRuntime) -> Result<(), Fail> {
     Ok(())
 }
 
+/// The canonical text of what a box begins with.
+fn box_text(alloc: Global, text: &[u8]) -> Result<Bytes, Fail>
+    requires { length text.now < 2 ^ 31 }
+{
+    let (vars, assumptions) = read_box(alloc, text)?;
+    Ok(print_box(alloc, &vars, &assumptions)?)
+}
+
+/// The canonical text of a head.
+fn head_text(alloc: Global, text: &[u8], op: bool) -> Result<Bytes, Fail>
+    requires { length text.now < 2 ^ 31 }
+{
+    let (name, head) = read_head(alloc, text, op)?;
+    Ok(print_head(alloc, &name, &head)?)
+}
+
+#[test]
+fn reads_and_prints_boxes_and_heads(rt: HostRuntime) -> Result<(), Fail> {
+    let alloc = rt.alloc();
+    let text = box_text(alloc, b"x:N,y:(V(x))|(p),imp(p,q)")?;
+    assert!(rt; text.items() == b"x:N, y:V(x) | p, p => q".as_slice());
+    let text = head_text(alloc, b"f(x:N,y:(V(x)))old s new t result r:N", true)?;
+    assert!(rt; text.items() == b"f(x:N, y:V(x)) old s new t result r:N".as_slice());
+    let text = head_text(alloc, b"f( )result r:(N)", false)?;
+    assert!(rt; text.items() == b"f() result r:N".as_slice());
+    Ok(())
+}
+
+#[test]
+fn refuses_parts_that_end_too_early(rt: HostRuntime) {
+    let alloc = rt.alloc();
+    assert!(rt; matches!(read_why(alloc, b"same"), Err(TextFault::Syntax(5))));
+    assert!(rt; matches!(read_box(alloc, b"x:N"), Err(TextFault::Syntax(4))));
+    assert!(rt; matches!(read_head(alloc, b"f()", true), Err(TextFault::Syntax(4))));
+}
+
 /// The nameless tree of a text.
 fn entered(alloc: Global, text: &[u8]) -> Result<Bare, Fail>
     requires { length text.now < 2 ^ 31 }
 {
     let tree = read_tree(alloc, text)?;
-    Ok(enter(alloc, &tree, &Names::new(alloc), &Names::new(alloc))?)
+    Ok(enter(alloc, &tree, &Variables::new(alloc), &Binders::new(alloc))?)
 }
 
 /// The nameless tree of a text in which the variable `x` is bound outside.
 fn entered_under(alloc: Global, text: &[u8]) -> Result<Bare, Fail>
     requires { length text.now < 2 ^ 31 }
 {
-    let mut bound = Names::new(alloc);
-    bound.push(Name::read(alloc, b"x")?)?;
+    let mut bound = Binders::new(alloc);
+    bound.push(alloc, &Name::read(alloc, b"x")?)?;
     let tree = read_tree(alloc, text)?;
-    Ok(enter(alloc, &tree, &Names::new(alloc), &bound)?)
+    Ok(enter(alloc, &tree, &Variables::new(alloc), &bound)?)
 }
 
 /// What stands for `?P[x]`.

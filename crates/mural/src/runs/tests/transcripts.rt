@@ -269,14 +269,14 @@ refused unknown l9
 refused unknown x
 > cite r1 m l1 : rule
 refused syntax 20
-> cite r1 m l1 : same l0
+> cite r1 m l1 : some l0
 refused syntax 16
 > cite r1 m l1 : rule a from
 refused syntax 27
-> cite r1 m l1 : rule a from l0 #1
+> cite r1 m l1 : rule a from l0 l1
 refused syntax 31
 > cite r1 m l1 : rule a from l0#1
-refused syntax 30
+ok
 > cite r1 m l1 : rule a from #1 l0
 refused syntax 31
 > cite r1 m l1 : rule a from l0, #1
@@ -291,7 +291,7 @@ refused syntax 31
 refused syntax 36
 > cite r1 m l1 : rule a with ?x := p;
 refused syntax 36
-> cite r1 m l1 : rule a via f
+> cite r1 m l1 : rule a on f
 refused syntax 23
 > cite r1 m l1 : rule x.y
 ok
@@ -308,7 +308,7 @@ ok
 > cite r1 m l1 : rule r2
 refused circle r1
 > cite r1 m l1 : rule a from l0, #1, b#2 with ?x := p
-refused syntax 37
+ok
 > cite r1 m l1 : rule a from l0, #1, b with ?x := p; ?y := f(?x, q)
 ok
 > status r1
@@ -335,7 +335,7 @@ refused syntax 7
 refused syntax 8
 > status status a
 refused syntax 15
-> box r1 m b in root : p
+> boxes r1 m b in root : p
 refused syntax 1
 > show theory a
 refused syntax 6
@@ -521,7 +521,7 @@ ok
 > status goal
 goal rule incomplete
 > cite goal m l : rule mp from #1, #2 with ?P := p; ?Q := q; ?P := p
-ok
+refused taken ?P
 > status goal
 goal rule incomplete
 > cite goal m l : rule mp from #1, #2 with ?P := p; ?Q := bool

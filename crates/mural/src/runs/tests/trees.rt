@@ -261,7 +261,7 @@ refused syntax 19
 > axiom t b : forall{x:T. p}(p)
 refused syntax 27
 > axiom t b : {x:T. p}
-refused syntax 13
+refused syntax 17
 > status a1
 a1 axiom established
 > status a2
@@ -542,7 +542,7 @@ ok
 and_swap rule established
 ";
 
-/// Rules on quantifiers, as far as they have no sequents.
+/// Rules on quantifiers.
 const QUANTIFIERS: &[u8] = b"\
 > theory q
 ok
@@ -553,7 +553,7 @@ ok
 > axiom q all_e : forall{x:?T. ?P[x]}; ?a : ?T |- ?P[?a]
 ok
 > axiom q all_i : {x:?T | |- ?P[x]} |- forall{x:?T. ?P[x]}
-refused syntax 17
+ok
 > axiom q ex_i : ?P[?a]; ?a : ?T |- exists{x:?T. ?P[x]}
 ok
 > rule q r : forall{y:N. exists{x:N. le(y, x)}} |- forall{x:N. exists{z:N. le(x, z)}}

@@ -1,31 +1,23 @@
-use Rattle.std.proofs.Common.{◌≡◌, sym, ap, ◌∙◌}
-use Rattle.std.specs.Option.{unwrap_or}
+use Rattle.std.proofs.Common.{◌≡◌, ◌∙◌, ap}
+use Rattle.std.specs.Option.{option_map_or}
 use Rattle.std.specs.FinMap as finite
 use Rattle.std.proofs.lemmas.Result.{on_ok_weaker, on_err_weaker}
-use Rattle.mu_tree.proofs.MapLemmas.{insert_got}
-use Rattle.mu_flat.specs.CiterTables.{citers_of, with_citer}
-use Rattle.mu_flat.proofs.ProofTables.{put_back, found_there, known_else}
+use Rattle.mu_tree.specs.Maps.{NamesOf}
+use Rattle.mu_flat.specs.CiterTables.{with_citer}
+use Rattle.mu_flat.proofs.ProofTables.{left_alone, where_lent}
 use Rattle.mu_flat.proofs.citer_tables.CiterTable.add.Goals as goal
 
--- what is put back stands at the rule
-restored : (c : goal.After-drop-rule-inside-2) → c.swap-2.new.self ≡ finite.insert c.self.inside.by_rule c.args.rule c.add-result.new.self
-restored c =
-    put_back c.self.inside.by_rule c.args.rule c.new-names.result c.add-result.new.self c.swap.new.self c.swap-2.new.self c.swap-2.result
-    (c.swap.ensures.there c.if-not-swap.false) c.swap-2.ensures.found c.swap-2.ensures.there
+-- what is lent stands at the rule afterwards
+written : (c : goal.After-drop-rule-inside) → c.get_mut.follows.lender c.add.new.self ≡ finite.insert c.self.inside.by_rule c.args.rule c.add.new.self
+written c = where_lent c.get_mut.result c.in-Some.names c.in-Some.is (c.get_mut.follows.holds c.add.new.self)
 
-before : (c : goal.After-drop-rule-inside-2) → c.swap.new.value ≡ citers_of c.self.inside.by_rule c.args.rule
-before c = c.swap.ensures.value ∙ ap (unwrap_or (finite.get c.self.inside.by_rule c.args.rule)) c.new-names.ensures ∙ known_else (finite.get c.self.inside.by_rule c.args.rule) finite.empty
+pub returns-in-Some-clause-ok : goal.returns-in-Some-clause-ok
+returns-in-Some-clause-ok c = on_ok_weaker c.add.result (λ put.
+    written c
+    ∙ ap (finite.insert c.self.inside.by_rule c.args.rule) put
+    ∙ ap (λ found. finite.insert c.self.inside.by_rule c.args.rule (finite.insert (option_map_or (λ (names : NamesOf). names) found finite.empty) c.args.citer tt)) c.in-Some.ensures.value
+    ∙ ap (λ citers. with_citer citers c.args.rule c.args.citer) c.self.view_is) c.add.ensures.ok
 
-pub returns-clause-ok : goal.returns-clause-ok
-returns-clause-ok c = on_ok_weaker c.add-result.result (λ put.
-    restored c
-    ∙ ap (finite.insert c.self.inside.by_rule c.args.rule) (put ∙ ap (λ own. finite.insert own c.args.citer tt) (before c))
-    ∙ ap (λ citers. with_citer citers c.args.rule c.args.citer) c.self.view_is) c.add-result.ensures.ok
-
-pub returns-clause-err : goal.returns-clause-err
-returns-clause-err c = on_err_weaker c.add-result.result (λ kept.
-    restored c
-    ∙ ap (finite.insert c.self.inside.by_rule c.args.rule) kept
-    ∙ insert_got c.self.inside.by_rule c.args.rule c.swap.new.value
-    (found_there (finite.get c.self.inside.by_rule c.args.rule) c.swap.new.value c.new-names.result (sym c.swap.ensures.found ∙ c.if-not-swap.false) c.swap.ensures.value)
-    ∙ c.self.view_is) c.add-result.ensures.err
+pub returns-in-Some-clause-err : goal.returns-in-Some-clause-err
+returns-in-Some-clause-err c = on_err_weaker c.add.result (λ kept.
+    left_alone c.self.inside.by_rule (c.get_mut.follows.lender c.add.new.self) c.args.rule c.in-Some.names.now c.add.new.self c.in-Some.ensures.value (written c) kept ∙ c.self.view_is) c.add.ensures.err

@@ -1,17 +1,33 @@
-use Rattle.std.proofs.Common.{◌≡◌, Some, sym, ap, ◌∙◌, true}
+use Rattle.std.proofs.Common.{◌≡◌, ◌∙◌, sym, ap, Some}
 use Rattle.std.specs.Prelude.{is_some}
-use Rattle.mu_flat.specs.ProofTables.{ProofsOf, proof_at, with_proof, has_line_at}
-use Rattle.mu_flat.proofs.ProofTables.{found_there, line_found, proof_back, with_reason_there}
+use Rattle.std.specs.FinMap as finite
+use Rattle.std.proofs.lemmas.Bool.{false≢true}
+use Rattle.mu_proof.specs.Edits.{altered}
+use Rattle.mu_proof.specs.declared.alteration.Alteration.TheVariants as alteration
+use Rattle.mu_flat.specs.ProofTables.{proof_at, has_line_at, with_reason_at}
+use Rattle.mu_flat.proofs.ProofTables.{where_lent, line_found, proof_at-absent, proof_of_own, change_of_own}
 use Rattle.mu_flat.proofs.proof_tables.ProofTable.set_reason.Goals as goal
+
+pub set_reason_in-requires : goal.set_reason_in-requires
+set_reason_in-requires c =
+    ap (has_line_at c.args.label.now)
+    (proof_of_own c.self.inside.by_rule c.args.rule.now c.args.proof.now c.in-Some.proofs.now c.in-Some.ensures.value
+    ∙ ap (λ proofs. proof_at proofs c.args.rule.now c.args.proof.now) c.self.view_is)
+    ∙ c.requires
 
 pub returns : goal.returns
 returns c =
-    let proofs : ProofsOf = c.args.self.now in
-    let rule = c.args.rule.now in
-    let proof = c.args.proof.now in
-    let found : is_some (proof_at proofs rule proof) ≡ true = line_found c.args.label.now (proof_at proofs rule proof) c.requires in
-    let there : proof_at proofs rule proof ≡ Some c.swap.new.other = found_there (proof_at proofs rule proof) c.swap.new.other c.new-edited.result found c.swap.ensures.value in
-    let is_line : c.swap_why.result ≡ true = c.swap_why.ensures.found ∙ sym (ap (has_line_at c.args.label.now) there) ∙ c.requires in
-    proof_back proofs rule proof c.new-edited.result c.swap_why.new.self c.swap.new.self c.swap-2.new.self c.swap-2.result (c.swap.ensures.there (c.swap.ensures.found ∙ found)) c.swap-2.ensures.found c.swap-2.ensures.there
-    ∙ ap (with_proof proofs rule proof) (c.swap_why.ensures.there is_line)
-    ∙ sym (with_reason_there proofs rule proof c.swap.new.other c.args.label.now (Some c.args.why) there)
+    let own = c.in-Some.proofs.now in
+    let at : finite.get own c.args.proof.now ≡ proof_at c.args.self.now c.args.rule.now c.args.proof.now =
+    proof_of_own c.self.inside.by_rule c.args.rule.now c.args.proof.now own c.in-Some.ensures.value ∙ ap (λ proofs. proof_at proofs c.args.rule.now c.args.proof.now) c.self.view_is in
+    where_lent c.get_mut.result c.in-Some.proofs c.in-Some.is (c.get_mut.follows.holds c.set_reason_in.new.proofs)
+    ∙ change_of_own c.self.inside.by_rule c.args.rule.now c.args.proof.now own c.in-Some.ensures.value (λ items. altered items c.args.label.now (alteration.Why (Some c.args.why))) c.set_reason_in.new.proofs
+    (line_found c.args.label.now (finite.get own c.args.proof.now) (ap (has_line_at c.args.label.now) at ∙ c.requires)) c.set_reason_in.ensures
+    ∙ ap (λ proofs. with_reason_at proofs c.args.rule.now c.args.proof.now c.args.label.now (Some c.args.why)) c.self.view_is
+
+pub unreachable-requires : goal.unreachable-requires
+unreachable-requires c =
+    false≢true
+    (sym (ap (has_line_at c.args.label.now) (proof_at-absent c.self.inside.by_rule c.args.rule.now c.args.proof.now (ap is_some (sym c.in-None.ensures.value))))
+    ∙ ap (λ proofs. has_line_at c.args.label.now (proof_at proofs c.args.rule.now c.args.proof.now)) c.self.view_is
+    ∙ c.requires)

@@ -1,0 +1,7 @@
+use Rattle.std.proofs.Common.{sym, ◌∙◌}
+use Rattle.mu_proof.specs.Items.{is_line, all_items}
+use Rattle.mu_proof.proofs.ProofLemmas.{has_kind}
+use Rattle.mu_proof.proofs.proofs.Proof.replace_why.Goals as goal
+
+pub alter-requires : goal.alter-requires
+alter-requires c = has_kind is_line c.args.label.now (all_items c.args.self.now) (sym c.has_line.ensures ∙ c.if-not-has_line.false)
