@@ -75,7 +75,12 @@ fn add_command(out: &mut Vec<u8>, command: &Command) -> Result<(), AllocError>
         Command::Cite(r, p, l, why) => add_form(
             out,
             Form::Cite,
-            &[Shown::Name(r), Shown::Name(p), Shown::Name(l), Shown::Reason(why)],
+            &[
+                Shown::Name(r),
+                Shown::Name(p),
+                Shown::Name(l),
+                Shown::Reason(why),
+            ],
         ),
         Command::Status(r) => add_form(out, Form::Status, &[Shown::Name(r)]),
         Command::ShowRule(r) => add_form(out, Form::ShowRule, &[Shown::Name(r)]),

@@ -20,8 +20,18 @@ pub(crate) fn row(form: Form) -> &'static [Part]
     match form {
         Form::Theory => &[Part::Plain],
         Form::Const => &[Part::Plain, Part::Declaration],
-        Form::Axiom => &[Part::Plain, Part::Plain, Part::Sign(Mark::Colon), Part::Claim],
-        Form::Rule => &[Part::Plain, Part::Plain, Part::Sign(Mark::Colon), Part::Claim],
+        Form::Axiom => &[
+            Part::Plain,
+            Part::Plain,
+            Part::Sign(Mark::Colon),
+            Part::Claim,
+        ],
+        Form::Rule => &[
+            Part::Plain,
+            Part::Plain,
+            Part::Sign(Mark::Colon),
+            Part::Claim,
+        ],
         Form::Proof => &[Part::Name, Part::Plain],
         Form::Line => &[
             Part::Name,
@@ -43,7 +53,13 @@ pub(crate) fn row(form: Form) -> &'static [Part]
             Part::Sign(Mark::Colon),
             Part::Block,
         ],
-        Form::Cite => &[Part::Name, Part::Plain, Part::Plain, Part::Sign(Mark::Colon), Part::Reason],
+        Form::Cite => &[
+            Part::Name,
+            Part::Plain,
+            Part::Plain,
+            Part::Sign(Mark::Colon),
+            Part::Reason,
+        ],
         Form::Status => &[Part::Name],
         Form::ShowRule => &[Part::Name],
         Form::ShowProof => &[Part::Name, Part::Name],

@@ -149,9 +149,7 @@ fn state(
     ensures { States store.old store.new rule statement result }
 {
     if !store.is_theory(&statement.theory) {
-        return Err(EditFault::Refused(Refusal::Unknown(
-            statement.theory.into_bytes(),
-        )));
+        return Err(EditFault::Refused(Refusal::Unknown(statement.theory.into_bytes())));
     }
     if store.is_rule(&rule) {
         return Err(EditFault::Refused(Refusal::Taken(rule.into_bytes())));

@@ -30,9 +30,7 @@ fn variables_differ(alloc: Global, vars: &[TypedVar]) -> Result<(), EditFault>
 fn taken(alloc: Global, name: &Name) -> Result<EditFault, NoMemory>
     ensures { IfOk result (λ fault. fault ≡ EditFault.Refused (Refusal.Taken name.now)) }
 {
-    Ok(EditFault::Refused(Refusal::Taken(
-        name.copy(alloc)?.into_bytes(),
-    )))
+    Ok(EditFault::Refused(Refusal::Taken(name.copy(alloc)?.into_bytes())))
 }
 
 /// Whether no variable of a sequent in a claim stands twice there, with the refusal where one does.
@@ -85,9 +83,7 @@ fn metavariables_differ(alloc: Global, inst: &[Given]) -> Result<(), EditFault>
     ensures fault { IfErr result (λ fault. (refusal : RefusalOf) → fault ≡ EditFault.Refused refusal → repeated_in_instantiation inst.now ≡ Some refusal) }
 {
     match first_repeat(alloc, inst)? {
-        Some(meta) => Err(EditFault::Refused(Refusal::Taken(written_meta(
-            alloc, meta,
-        )?))),
+        Some(meta) => Err(EditFault::Refused(Refusal::Taken(written_meta(alloc, meta)?))),
         None => parameters_differ(alloc, inst),
     }
 }

@@ -44,7 +44,10 @@ impl Named for Given {
 ///
 /// `NoMemory`.
 #[tactic(auto, using(crate::proofs::RepeatLemmas::repeats_are_first))]
-pub(crate) fn first_repeat<'a, T: Named>(alloc: Global, items: &'a [T]) -> Result<Option<&'a Name>, NoMemory>
+pub(crate) fn first_repeat<'a, T: Named>(
+    alloc: Global,
+    items: &'a [T],
+) -> Result<Option<&'a Name>, NoMemory>
     ensures value { IfOk result (λ name. option_copied name ≡ repeated (map T.name items.now)) }
     ensures law { RepeatsAreFirst }
 {

@@ -14,7 +14,7 @@ pub returns-in_err-fields : goal.returns-in_err-fields
 returns-in_err-fields c =
     let is : c.from_residual-in_err-fields.result ≡ Err c.in_err-fields.field-0.0 = search rules in
     rw is (command_stops c.in_ok-form.form c.args.excess.now c.read_row.new.excess _ c.read_form.new.reader _ _ c.in_ok-form.ensures
-        (subst (λ (parts : List Part). GivesRow parts c.args.excess.now c.read_row.new.excess c.read_form.new.reader (Err c.in_err-fields.field-0.0) c.read_row.new.reader) c.row.ensures c.in_err-fields.ensures))
+    (subst (λ (parts : List Part). GivesRow parts c.args.excess.now c.read_row.new.excess c.read_form.new.reader (Err c.in_err-fields.field-0.0) c.read_row.new.reader) c.row.ensures c.in_err-fields.ensures))
 
 pub returns : goal.returns
 returns c =

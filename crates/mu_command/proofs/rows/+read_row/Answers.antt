@@ -10,15 +10,15 @@ pub returns-in_err-first-in-len1-up : goal.returns-in_err-first-in-len1-up
 returns-in_err-first-in-len1-up n c =
     let is : c.from_residual.result ≡ Err c.in_err-first-in-len1-up.field-0.0 = search rules in
     rw is (subst (λ (parts : List Part). GivesRow parts c.args.excess.now c.read_part.new.excess c.args.reader.now (Err c.in_err-first-in-len1-up.field-0.0) c.read_part.new.reader)
-        (sym (split_row c.args.row.now c.in-len1-up.len_at_least))
-        (row_stops_at_first _ _ c.args.excess.now c.read_part.new.excess c.read_part.new.excess _ _ _ c.in_err-first-in-len1-up.ensures))
+    (sym (split_row c.args.row.now c.in-len1-up.len_at_least))
+    (row_stops_at_first _ _ c.args.excess.now c.read_part.new.excess c.read_part.new.excess _ _ _ c.in_err-first-in-len1-up.ensures))
 
 pub returns-in_err-others-in-len1-up : goal.returns-in_err-others-in-len1-up
 returns-in_err-others-in-len1-up n c =
     let is : c.from_residual-in_err-others-in-len1-up.result ≡ Err c.in_err-others-in-len1-up.field-0.0 = search rules in
     rw is (subst (λ (parts : List Part). GivesRow parts c.args.excess.now c.read_row.new.excess c.args.reader.now (Err c.in_err-others-in-len1-up.field-0.0) c.read_row.new.reader)
-        (sym (split_row c.args.row.now c.in-len1-up.len_at_least))
-        (row_stops_behind _ _ c.args.excess.now c.read_part.new.excess c.read_row.new.excess _ c.read_part.new.reader _ c.in_ok-first-in-len1-up.first _ c.in_ok-first-in-len1-up.ensures c.in_err-others-in-len1-up.ensures))
+    (sym (split_row c.args.row.now c.in-len1-up.len_at_least))
+    (row_stops_behind _ _ c.args.excess.now c.read_part.new.excess c.read_row.new.excess _ c.read_part.new.reader _ c.in_ok-first-in-len1-up.first _ c.in_ok-first-in-len1-up.ensures c.in_err-others-in-len1-up.ensures))
 
 pub returns-in-empty : goal.returns-in-empty
 returns-in-empty n c =
