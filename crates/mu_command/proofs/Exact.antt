@@ -1,23 +1,23 @@
 -- Commands are read exactly.
-use Rattle.std.proofs.Common.{◌≡◌, ℕ, Bool, true, false, List, [], ◌∷◌, ◌++◌, refl, ap, sym, ◌∙◌, subst, append-nil}
-use Rattle.std.specs.Prelude.{codes, ◌&&◌}
+use Rattle.std.proofs.Common.{◌≡◌, Bool, true, false, List, [], ◌∷◌, ◌++◌, refl, ap, sym, ◌∙◌, subst, append-nil}
+use Rattle.std.specs.Prelude.{codes, ◌&&◌, ◌||◌}
 use Rattle.std.proofs.lemmas.Bool.{and_parts}
 use Rattle.mu_grammar.specs.declared.symbol.Mark.{Mark}
-use Rattle.mu_grammar.specs.declared.symbol.Mark.TheVariants.{And}
+use Rattle.mu_grammar.specs.declared.symbol.Mark.TheVariants.{And, Eq}
 use Rattle.mu_grammar.specs.Lexemes.{Lexeme, mark}
 use Rattle.mu_grammar.specs.Parts.{Nothing, End, given_back, Then, chain}
 use Rattle.mu_grammar.specs.Rows.{Values, SpellsRow}
-use Rattle.mu_grammar.specs.SimpleParts.{is_word, AnyName, GivenWord, read_word, read_name}
+use Rattle.mu_grammar.specs.SimpleParts.{is_word, AnyName, read_name}
 use Rattle.mu_grammar.specs.Groups.{Optional}
 use Rattle.mu_text.proofs.Exact.{Exact, Exact-same, Exact-chain, Exact-pure}
-use Rattle.mu_text.proofs.Simple.{Any as Anything, Exact-mark, Exact-name, Exact-plain_name, Exact-word, is_own_word}
-use Rattle.mu_text.proofs.Choice.{Passes, Fails}
+use Rattle.mu_text.proofs.Simple.{Any as Anything, Exact-mark, Exact-name, Exact-plain_name, Exact-word}
+use Rattle.mu_text.proofs.Choice.{Fails}
 use Rattle.mu_text.proofs.Complete.{Follows}
 use Rattle.mu_text.proofs.Trees.{Exact-tree}
 use Rattle.mu_text.proofs.Claims.{NoClaim, Exact-claim}
 use Rattle.mu_text.proofs.Reasons.{NoReason, reason_ends, Exact-reason}
 use Rattle.mu_text.proofs.Blocks.{NoBlock, block_ends, Exact-block}
-use Rattle.mu_text.proofs.Groups.{Exact-optional}
+use Rattle.mu_text.proofs.Groups.{NoOpen, Exact-formals, Exact-perhaps}
 use Rattle.mu_text.proofs.Declarations.{Exact-declaration}
 use Rattle.mu_text.proofs.Rows as rows
 use Rattle.mu_command.specs.declared.forms.Form.{Form}
@@ -42,22 +42,16 @@ Exact-form =
 abbrev is_before_word : Lexeme → Bool
 is_before_word = is_word (codes "before")
 
-exact_is_before : Exact (chain (read_word (codes "before")) (λ _ l. read_name l)) IsBefore Anything
-exact_is_before = Exact-chain (read_word (codes "before")) (λ _ l. read_name l) (GivenWord (codes "before")) (λ _ l y. AnyName l y) Anything Anything (Exact-word (codes "before")) (λ _. Exact-name) (λ u b y rest h s. tt)
-
-before_passes : (ts : List Lexeme) (x : List ℕ) → IsBefore ts x → Passes is_before_word ts
-before_passes ts x g =
-    subst (Passes is_before_word) (sym (g.3 ∙ ap (λ l. l ++ g.2) g.4.1)) (is_own_word (codes "before") g.4.0 g.4.2)
-
 abbrev pub NoBefore : List Lexeme → Type 0
 NoBefore rest = Anything rest × Fails is_before_word rest
 
 exact_before : Exact read_before (Optional IsBefore) NoBefore
 unfolding read_before
-exact_before = Exact-optional is_before_word (chain (read_word (codes "before")) (λ _ l. read_name l)) IsBefore Anything exact_is_before before_passes
+exact_before = Exact-perhaps (codes "before") read_name AnyName Anything Exact-name
 
 -- what may follow a part
 abbrev pub Stops : Part → List Lexeme → Type 0
+Stops part.Formals ts = NoOpen ts
 Stops part.Before ts = NoBefore ts
 Stops part.Tree ts = Follows ts
 Stops part.Claim ts = NoClaim ts
@@ -71,6 +65,7 @@ exact_part part.Plain = Exact-plain_name
 exact_part (part.Word keyword) = Exact-word (keyword_text keyword)
 exact_part (part.Sign m) = Exact-mark m
 exact_part part.Declaration = Exact-declaration
+exact_part part.Formals = Exact-formals
 exact_part part.Before = exact_before
 exact_part part.Tree = Exact-tree
 exact_part part.Claim = Exact-claim
@@ -82,6 +77,11 @@ abbrev begins_marked : List Part → Bool
 begins_marked (part.Sign m ∷ parts) = true
 begins_marked _ = false
 
+-- an equals sign comes first
+abbrev begins_equated : List Part → Bool
+begins_equated (part.Sign Eq ∷ parts) = true
+begins_equated _ = false
+
 -- no part is left
 abbrev is_last : List Part → Bool
 is_last [] = true
@@ -89,7 +89,8 @@ is_last (each ∷ parts) = false
 
 -- the part may stand before these
 abbrev goes_before : Part → List Part → Bool
-goes_before part.Before parts = begins_marked parts
+goes_before part.Formals parts = begins_equated parts
+goes_before part.Before parts = begins_marked parts || is_last parts
 goes_before part.Tree parts = is_last parts
 goes_before part.Claim parts = is_last parts
 goes_before part.Reason parts = is_last parts
@@ -120,9 +121,25 @@ mark_follows [] marked = cc
 mark_follows (part.Sign m ∷ parts) marked = λ ts v g. subst NoBefore (sym (g.2 ∙ ap (λ l. l ++ g.1) g.3)) (tt, unmarked m)
 mark_follows (_ ∷ parts) marked = cc
 
+equated_follows : (parts : List Part) → begins_equated parts ≡ true → Follow part.Formals parts
+unfolding Follow
+equated_follows [] equated = cc
+equated_follows (part.Sign Eq ∷ parts) equated = λ ts v g. subst NoOpen (sym (g.2 ∙ ap (λ l. l ++ g.1) g.3)) refl
+equated_follows (part.Sign _ ∷ parts) equated = cc
+equated_follows (_ ∷ parts) equated = cc
+
+before_follows : (parts : List Part) → (begins_marked parts || is_last parts) ≡ true → Follow part.Before parts
+before_follows [] goes = none_follows part.Before [] (tt, tt) refl
+before_follows (each ∷ parts) goes = mark_follows (each ∷ parts) (or_none _ goes)
+  where
+    or_none : (b : Bool) → (b || false) ≡ true → b ≡ true
+    or_none true e = refl
+    or_none false e = e
+
 follow : (each : Part) (parts : List Part) → goes_before each parts ≡ true → Follow each parts
 unfolding Follow
-follow part.Before parts goes = mark_follows parts goes
+follow part.Formals parts goes = equated_follows parts goes
+follow part.Before parts goes = before_follows parts goes
 follow part.Tree parts goes = none_follows part.Tree parts tt goes
 follow part.Claim parts goes = none_follows part.Claim parts (tt, tt) goes
 follow part.Reason parts goes = none_follows part.Reason parts reason_ends goes

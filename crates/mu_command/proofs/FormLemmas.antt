@@ -1,6 +1,6 @@
 -- The words of a form, and the parts that follow them.
 use Rattle.std.proofs.Common.{◌≡◌, ◌<◌, ◌≤◌, ◌∙◌, ap, sym, refl, subst, length, arith}
-use Rattle.std.specs.Prelude.{ℕ, ◌-◌, List, [], ◌∷◌, ◌++◌, drop, take, slice_index_or, Option, Some, Result, Ok, Err, Bool, true, false, if◌then◌else◌, ◌&&◌, None, is_some, option_and_then}
+use Rattle.std.specs.Prelude.{ℕ, ◌-◌, List, [], ◌∷◌, ◌++◌, drop, take, slice_index_or, Option, Some, Ok, Err, Bool, true, false, if◌then◌else◌, ◌&&◌, None, is_some, option_and_then}
 use Rattle.mu_tables.specs.Words.{is_bare, lengthened, number_behind, number_of, some_begins}
 use Rattle.mu_tables.specs.Tables.{the_forms}
 use Rattle.mu_grammar.specs.declared.excess.Excess.{Excess}
@@ -23,7 +23,7 @@ use Rattle.mu_command.specs.declared.parts.Field.{Field}
 use Rattle.mu_command.specs.declared.parts.Field.TheVariants as field
 use Rattle.mu_command.specs.Parts.{Value, read_part, trees_in, StandsPart}
 use Rattle.mu_command.specs.Rows.{row, form_of, fields_of, trees_of, with_first, StandsRow}
-use Rattle.mu_command.specs.Making.{asked, first, sorts_of, name, declaration, before, tree, claim, reason, block}
+use Rattle.mu_command.specs.Making.{asked, first, sorts_of, name, declaration, formals, before, tree, claim, reason, block}
 use Rattle.mu_command.specs.Grammar.{GivesCommand, GivesPart, GivesRow, read_command, read_parts}
 
 -- a part without trees
@@ -109,6 +109,8 @@ part_sort (part.Sign m) parts v None others s e = e
 part_sort (part.Sign m) parts v (Some k) others s e = absurd s
 part_sort part.Declaration parts v (Some (field.Declaration k)) others s e = ap (λ sorts. declaration ∷ sorts) e
 part_sort part.Declaration parts v _ others s e = absurd s
+part_sort part.Formals parts v (Some (field.Formals k)) others s e = ap (λ sorts. formals ∷ sorts) e
+part_sort part.Formals parts v _ others s e = absurd s
 part_sort part.Before parts v (Some (field.Before k)) others s e = ap (λ sorts. before ∷ sorts) e
 part_sort part.Before parts v _ others s e = absurd s
 part_sort part.Tree parts v (Some (field.Tree k)) others s e = ap (λ sorts. tree ∷ sorts) e

@@ -5,11 +5,11 @@ use Rattle.mu_grammar.specs.Rows.{Values, SpellsRow}
 use Rattle.mu_grammar.specs.Excesses.{excess_of, no_excess}
 use Rattle.mu_grammar.specs.Limits.{WithinToken, WithinTokens}
 use Rattle.mu_text.proofs.Excesses.{none_together, all_parts}
-use Rattle.mu_text.proofs.Limits.{name-keeps, plain_name-keeps, tree-meant, claim-meant, reason-meant, declaration-meant, block-meant}
+use Rattle.mu_text.proofs.Limits.{name-keeps, plain_name-keeps, tree-meant, claim-meant, reason-meant, declaration-meant, block-meant, formals-meant}
 use Rattle.mu_command.specs.declared.command.Command.{Command}
 use Rattle.mu_command.specs.declared.command.Command.TheVariants as command
 use Rattle.mu_command.specs.declared.forms.Form.{Form}
-use Rattle.mu_command.specs.declared.forms.Form.TheVariants.{Theory, Const, Axiom, Rule, Proof, Line, Box, Cite, Status, ShowRule, ShowProof}
+use Rattle.mu_command.specs.declared.forms.Form.TheVariants.{Theory, Parent, Unparent, Const, AlterConst, Define, Undefine, Axiom, Rule, AlterRule, Proof, Line, Box, AlterLine, AlterBox, Move, Cite, Unjustify, DropUnit, DropConst, DropRule, DropProof, DropItem, Status, ShowUnit, ShowRule, ShowProof}
 use Rattle.mu_command.specs.declared.parts.Part.{Part}
 use Rattle.mu_command.specs.declared.parts.Part.TheVariants as part
 use Rattle.mu_command.specs.declared.parts.Field.{Field}
@@ -23,7 +23,7 @@ before_meant ts None None g a s = refl
 before_meant ts None (Some y) g a s = absurd s
 before_meant ts (Some x) None g a s = absurd s
 before_meant ts (Some x) (Some y) g a s =
-    ap (λ n. Some n) (s (name-keeps g.2 x (all_parts WithinToken g.1 g.2 (subst WithinTokens g.3 a)).1 g.5))
+    ap (λ n. Some n) (s (name-keeps g.1 x (all_parts WithinToken g.0 g.1 (subst WithinTokens g.2 a)).1 g.4))
 
 part_meant : (each : Part) (ts : List Lexeme) (v : Value each) (k : Option Field) → SpellsPart each ts v → WithinTokens ts → StandsPart each v k → excess_of (trees_in each v) ≡ no_excess → k ≡ said each v
 part_meant part.Name ts v (Some (field.Name k)) g a s e = ap (λ x. Some (field.Name x)) (s (name-keeps ts v a g))
@@ -36,6 +36,8 @@ part_meant (part.Sign m) ts v None g a s e = refl
 part_meant (part.Sign m) ts v (Some k) g a s e = absurd s
 part_meant part.Declaration ts v (Some (field.Declaration k)) g a s e = ap (λ x. Some (field.Declaration x)) (declaration-meant ts v k a g refl s)
 part_meant part.Declaration ts v _ g a s e = absurd s
+part_meant part.Formals ts v (Some (field.Formals k)) g a s e = ap (λ x. Some (field.Formals x)) (formals-meant ts v k a g refl s)
+part_meant part.Formals ts v _ g a s e = absurd s
 part_meant part.Before ts v (Some (field.Before k)) g a s e = ap (λ x. Some (field.Before x)) (before_meant ts v k g a s)
 part_meant part.Before ts v _ g a s e = absurd s
 part_meant part.Tree ts v (Some (field.Tree k)) g a s e = ap (λ x. Some (field.Tree x)) (tree-meant ts v k a g e s)
@@ -60,14 +62,30 @@ row_meant (each ∷ parts) ts v fields g a (first, others, is, here, behind) e =
 -- a command by its form and its fields
 back : Form → List Field → Option Command
 back Theory (field.Name u ∷ []) = Some (command.Theory u)
+back Parent (field.Name u ∷ field.Name p ∷ []) = Some (command.Parent u p)
+back Unparent (field.Name u ∷ field.Name p ∷ []) = Some (command.Unparent u p)
 back Const (field.Name u ∷ field.Declaration d ∷ []) = Some (command.Const u d.name d.shape d.result)
+back AlterConst (field.Declaration d ∷ []) = Some (command.AlterConst d.name d.shape d.result)
+back Define (field.Name c ∷ field.Formals params ∷ field.Tree body ∷ []) = Some (command.Define c (record { params = params; body = body }))
+back Undefine (field.Name c ∷ []) = Some (command.Undefine c)
 back Axiom (field.Name u ∷ field.Name r ∷ field.Claim claim ∷ []) = Some (command.Axiom u r claim)
 back Rule (field.Name u ∷ field.Name r ∷ field.Claim claim ∷ []) = Some (command.Rule u r claim)
+back AlterRule (field.Name r ∷ field.Claim claim ∷ []) = Some (command.AlterRule r claim)
 back Proof (field.Name r ∷ field.Name p ∷ []) = Some (command.Proof r p)
 back Line (field.Name r ∷ field.Name p ∷ field.Name l ∷ field.Name b ∷ field.Before x ∷ field.Tree tree ∷ []) = Some (command.Line r p l b x tree)
 back Box (field.Name r ∷ field.Name p ∷ field.Name l ∷ field.Name b ∷ field.Before x ∷ field.Block vars assumptions ∷ []) = Some (command.Box r p l b x vars assumptions)
+back AlterLine (field.Name r ∷ field.Name p ∷ field.Name l ∷ field.Tree tree ∷ []) = Some (command.AlterLine r p l tree)
+back AlterBox (field.Name r ∷ field.Name p ∷ field.Name l ∷ field.Block vars assumptions ∷ []) = Some (command.AlterBox r p l vars assumptions)
+back Move (field.Name r ∷ field.Name p ∷ field.Name l ∷ field.Name b ∷ field.Before x ∷ []) = Some (command.Move r p l b x)
 back Cite (field.Name r ∷ field.Name p ∷ field.Name l ∷ field.Reason why ∷ []) = Some (command.Cite r p l why)
+back Unjustify (field.Name r ∷ field.Name p ∷ field.Name l ∷ []) = Some (command.Unjustify r p l)
+back DropUnit (field.Name u ∷ []) = Some (command.DropUnit u)
+back DropConst (field.Name c ∷ []) = Some (command.DropConst c)
+back DropRule (field.Name r ∷ []) = Some (command.DropRule r)
+back DropProof (field.Name r ∷ field.Name p ∷ []) = Some (command.DropProof r p)
+back DropItem (field.Name r ∷ field.Name p ∷ field.Name l ∷ []) = Some (command.DropItem r p l)
 back Status (field.Name r ∷ []) = Some (command.Status r)
+back ShowUnit (field.Name u ∷ []) = Some (command.ShowUnit u)
 back ShowRule (field.Name r ∷ []) = Some (command.ShowRule r)
 back ShowProof (field.Name r ∷ field.Name p ∷ []) = Some (command.ShowProof r p)
 back _ _ = None

@@ -24,15 +24,13 @@ use Rattle.mu_text.proofs.Facts.{IsTokenOf, tokens_hold}
 use Rattle.mu_text.proofs.Simple.{from_bytes}
 use Rattle.mu_command.specs.declared.command.Command.{Command}
 use Rattle.mu_command.specs.declared.forms.Form.{Form}
-use Rattle.mu_command.specs.declared.readings.Reading.TheVariants as reading
 use Rattle.mu_command.specs.declared.parts.Part.{Part}
 use Rattle.mu_command.specs.declared.parts.Part.TheVariants as part
 use Rattle.mu_command.specs.Parts.{Value, SpellsPart}
 use Rattle.mu_command.specs.Rows.{row, fields_of, said_by}
 use Rattle.mu_command.specs.Grammar.{Spelled, command_of, make}
-use Rattle.mu_command.specs.Readings.{ReadingIsExact, Says, reading_of}
+use Rattle.mu_command.specs.Language.{IsCommand}
 use Rattle.mu_command.specs.Plain.{ArePlain, IsPlain, HasPlainNames}
-use Rattle.mu_command.proofs.Lines.{reading_is_exact}
 use Rattle.mu_command.proofs.Meant.{fields_made, form_made}
 
 one_segment : (parts : List (List ℕ)) → length parts ≡ 1 → list_all is_segment parts ≡ true → IsPlain (join_with_byte 46 parts)
@@ -132,12 +130,8 @@ command_plain form v are =
     let parts = row form in
     subst (λ (f : Form). ArePlain (row f) (fields_of (make form v))) (sym (form_made form v)) (subst (ArePlain (row form)) (sym (fields_made form v)) (said_plain (row form) v are))
 
-says_plain : (line : List ℕ) (c : Command) → Says line (reading.Command c) → HasPlainNames c
-says_plain line c (w, spells, none, same) =
+-- what a command of the language declares, and where, have plain names
+pub language_plain : (c : Command) → IsCommand c → HasPlainNames c
+language_plain c (line, (w, spells, short, none, same)) =
     let are = all_parts IsPlainItem spells.0 spells.1 (subst (AllByRecursion IsPlainItem) spells.2 (tokens_plain line (tokens line) (tokens_hold line))) in
     subst HasPlainNames (sym same) (command_plain w.0 w.1 (row_plain (row w.0) spells.1 w.1 are.1 spells.4))
-
--- what a command that a line reads as declares, and where, have plain names
-pub reads_plain : (line : List ℕ) (c : Command) → reading_of line ≡ reading.Command c → HasPlainNames c
-unfolding ReadingIsExact
-reads_plain line c e = says_plain line c (subst (Says line) e (reading_is_exact line).says)

@@ -4,7 +4,7 @@ use Rattle.mu_tables.specs.Words.{text_of}
 use Rattle.mu_tables.specs.Tables.{the_forms}
 use Rattle.mu_grammar.specs.Spellings.{mark_text}
 use Rattle.mu_print.specs.Canonical.{tree_text}
-use Rattle.mu_print.specs.Texts.{block_text, claim_text, declaration_text, reason_text}
+use Rattle.mu_print.specs.Texts.{block_text, claim_text, declaration_text, formals_text, reason_text}
 use Rattle.mu_command.specs.declared.command.Command.{Command}
 use Rattle.mu_command.specs.declared.forms.Form.{Form}
 use Rattle.mu_command.specs.declared.parts.Part.{Part}
@@ -24,17 +24,18 @@ abbrev pub before_text : Option (List ℕ) → List ℕ
 before_text None = []
 before_text (Some item) = codes " before " ++ item
 
--- what a part says, behind a blank
+-- what a part says, behind a blank: but formal parameters stand right behind the name before them, and an item before which another is put may be left out
 unfoldable pub field_text : Field → List ℕ
 field_text (field.Name name) = spaced name
 field_text (field.Declaration d) = spaced (declaration_text d.name d.shape d.result)
+field_text (field.Formals names) = formals_text names
 field_text (field.Before item) = before_text item
 field_text (field.Tree tree) = spaced (tree_text tree)
 field_text (field.Claim claim) = spaced (claim_text claim)
 field_text (field.Reason why) = spaced (reason_text why)
 field_text (field.Block vars assumptions) = spaced (block_text vars assumptions)
 
--- some parts, each behind a blank: words and marks as they stand in the row, and what the others say
+-- some parts: words and marks, each behind a blank, as they stand in the row, and what the others say
 unfoldable pub row_text : List Part → List Field → List ℕ
 row_text [] fields = []
 row_text (part.Word keyword ∷ parts) fields = spaced (keyword_text keyword) ++ row_text parts fields

@@ -8,25 +8,69 @@ use Rattle.mu_grammar.specs.Lexemes.{Lexeme, word}
 use Rattle.mu_grammar.specs.Parts.{Out}
 use Rattle.mu_command.specs.Words.{read_words}
 use Rattle.mu_command.specs.declared.forms.Form.{Form}
-use Rattle.mu_command.specs.declared.forms.Form.TheVariants.{Theory, Const, Axiom, Rule, Proof, Line, Box, Cite, Status, ShowRule, ShowProof}
+use Rattle.mu_command.specs.declared.forms.Form.TheVariants.{Theory, Parent, Unparent, Const, AlterConst, Define, Undefine, Axiom, Rule, AlterRule, Proof, Line, Box, AlterLine, AlterBox, Move, Cite, Unjustify, DropUnit, DropConst, DropRule, DropProof, DropItem, Status, ShowUnit, ShowRule, ShowProof}
 
 -- the number of the form in the table of words
 abbrev pub number : Form → ℕ
 number Theory = 1
-number Const = 2
-number Axiom = 3
-number Rule = 4
-number Proof = 5
-number Line = 6
-number Box = 7
-number Cite = 8
-number Status = 9
-number ShowRule = 10
-number ShowProof = 11
+number Parent = 2
+number Unparent = 3
+number Const = 4
+number AlterConst = 5
+number Define = 6
+number Undefine = 7
+number Axiom = 8
+number Rule = 9
+number AlterRule = 10
+number Proof = 11
+number Line = 12
+number Box = 13
+number AlterLine = 14
+number AlterBox = 15
+number Move = 16
+number Cite = 17
+number Unjustify = 18
+number DropUnit = 19
+number DropConst = 20
+number DropRule = 21
+number DropProof = 22
+number DropItem = 23
+number Status = 24
+number ShowUnit = 25
+number ShowRule = 26
+number ShowProof = 27
 
 -- all forms
 abbrev pub forms : List Form
-forms = Theory ∷ Const ∷ Axiom ∷ Rule ∷ Proof ∷ Line ∷ Box ∷ Cite ∷ Status ∷ ShowRule ∷ ShowProof ∷ []
+forms =
+    Theory
+    ∷ Parent
+    ∷ Unparent
+    ∷ Const
+    ∷ AlterConst
+    ∷ Define
+    ∷ Undefine
+    ∷ Axiom
+    ∷ Rule
+    ∷ AlterRule
+    ∷ Proof
+    ∷ Line
+    ∷ Box
+    ∷ AlterLine
+    ∷ AlterBox
+    ∷ Move
+    ∷ Cite
+    ∷ Unjustify
+    ∷ DropUnit
+    ∷ DropConst
+    ∷ DropRule
+    ∷ DropProof
+    ∷ DropItem
+    ∷ Status
+    ∷ ShowUnit
+    ∷ ShowRule
+    ∷ ShowProof
+    ∷ []
 
 -- the form of a number
 abbrev pub numbered : ℕ → Option Form

@@ -13,7 +13,7 @@ use Rattle.mu_grammar.specs.Excesses.{Raising}
 use Rattle.mu_command.specs.declared.command.Command.{Command}
 use Rattle.mu_command.specs.declared.command.Command.TheVariants as command
 use Rattle.mu_command.specs.declared.forms.Form.{Form}
-use Rattle.mu_command.specs.declared.forms.Form.TheVariants.{Theory, Const, Axiom, Rule, Proof, Line, Box, Cite, Status, ShowRule, ShowProof}
+use Rattle.mu_command.specs.declared.forms.Form.TheVariants.{Theory, Parent, Unparent, Const, AlterConst, Define, Undefine, Axiom, Rule, AlterRule, Proof, Line, Box, AlterLine, AlterBox, Move, Cite, Unjustify, DropUnit, DropConst, DropRule, DropProof, DropItem, Status, ShowUnit, ShowRule, ShowProof}
 use Rattle.mu_command.specs.declared.parts.Part.{Part}
 use Rattle.mu_command.specs.declared.parts.Field.{Field}
 use Rattle.mu_command.specs.Forms.{FormWords, read_form}
@@ -35,14 +35,30 @@ Spells ts w = (a b : List Lexeme) × (ts ≡ a ++ b) × FormWords a w.0 × Spell
 -- the command of a form, by what its parts are spelled for
 abbrev pub make : (form : Form) → Spelled form → Command
 make Theory v = command.Theory v.0
+make Parent v = command.Parent v.0 v.1.0
+make Unparent v = command.Unparent v.0 v.1.0
 make Const v = command.Const v.0 v.1.0.name v.1.0.shape v.1.0.result
+make AlterConst v = command.AlterConst v.0.name v.0.shape v.0.result
+make Define v = command.Define v.0 (record { params = v.1.0; body = tree_of v.1.1.1.0 })
+make Undefine v = command.Undefine v.0
 make Axiom v = command.Axiom v.0 v.1.0 (claim_of v.1.1.1.0)
 make Rule v = command.Rule v.0 v.1.0 (claim_of v.1.1.1.0)
+make AlterRule v = command.AlterRule v.0 (claim_of v.1.1.0)
 make Proof v = command.Proof v.0 v.1.0
 make Line v = command.Line v.0 v.1.0 v.1.1.0 v.1.1.1.1.0 v.1.1.1.1.1.0 (tree_of v.1.1.1.1.1.1.1.0)
 make Box v = command.Box v.0 v.1.0 v.1.1.0 v.1.1.1.1.0 v.1.1.1.1.1.0 (block_of v.1.1.1.1.1.1.1.0).0 (block_of v.1.1.1.1.1.1.1.0).1
+make AlterLine v = command.AlterLine v.0 v.1.0 v.1.1.0 (tree_of v.1.1.1.1.0)
+make AlterBox v = command.AlterBox v.0 v.1.0 v.1.1.0 (block_of v.1.1.1.1.0).0 (block_of v.1.1.1.1.0).1
+make Move v = command.Move v.0 v.1.0 v.1.1.0 v.1.1.1.1.0 v.1.1.1.1.1.0
 make Cite v = command.Cite v.0 v.1.0 v.1.1.0 (why_of v.1.1.1.1.0)
+make Unjustify v = command.Unjustify v.0 v.1.0 v.1.1.0
+make DropUnit v = command.DropUnit v.0
+make DropConst v = command.DropConst v.0
+make DropRule v = command.DropRule v.0
+make DropProof v = command.DropProof v.0 v.1.0
+make DropItem v = command.DropItem v.0 v.1.0 v.1.1.0
 make Status v = command.Status v.0
+make ShowUnit v = command.ShowUnit v.0
 make ShowRule v = command.ShowRule v.0
 make ShowProof v = command.ShowProof v.0 v.1.0
 

@@ -1,11 +1,13 @@
 pub mod Canonical
 pub mod Forms
 pub mod Grammar
+pub mod Language
+pub mod Lines
 pub mod Making
 pub mod OneText
 pub mod Parts
 pub mod Plain
-pub mod Readings
+pub mod Queries
 pub mod Rows
 pub mod Shown
 pub mod Words

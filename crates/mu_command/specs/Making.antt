@@ -1,5 +1,5 @@
 -- Which sorts of fields the parts of a form ask for.
-use Rattle.std.specs.Prelude.{◌≡◌, List, [], ◌∷◌, Option, Some, None, map}
+use Rattle.std.specs.Prelude.{◌≡◌, List, [], ◌∷◌, Option, Some, None, map, take}
 use Rattle.mu_command.specs.declared.parts.Part.{Part}
 use Rattle.mu_command.specs.declared.parts.Part.TheVariants as part
 use Rattle.mu_command.specs.declared.parts.Field.{Field}
@@ -9,6 +9,7 @@ use Rattle.mu_command.specs.declared.parts.Field.TheVariants as field
 pub data Sort : Type 0 where
   name : Sort
   declaration : Sort
+  formals : Sort
   before : Sort
   tree : Sort
   claim : Sort
@@ -19,6 +20,7 @@ pub data Sort : Type 0 where
 abbrev pub sort_of : Field → Sort
 sort_of (field.Name v) = name
 sort_of (field.Declaration v) = declaration
+sort_of (field.Formals v) = formals
 sort_of (field.Before v) = before
 sort_of (field.Tree v) = tree
 sort_of (field.Claim v) = claim
@@ -37,6 +39,7 @@ asked (part.Plain ∷ parts) = name ∷ asked parts
 asked (part.Word keyword ∷ parts) = asked parts
 asked (part.Sign m ∷ parts) = asked parts
 asked (part.Declaration ∷ parts) = declaration ∷ asked parts
+asked (part.Formals ∷ parts) = formals ∷ asked parts
 asked (part.Before ∷ parts) = before ∷ asked parts
 asked (part.Tree ∷ parts) = tree ∷ asked parts
 asked (part.Claim ∷ parts) = claim ∷ asked parts
@@ -56,3 +59,11 @@ others (s ∷ sorts) = sorts
 -- the first of some fields is of this sort
 abbrev pub Begins : Sort → List Field → Type 0
 Begins s fields = first (sorts_of fields) ≡ Some s
+
+-- the first of some fields are those of an item of a proof: the names of a rule, a proof and the item
+abbrev pub BeginsItem : List Field → Type 0
+BeginsItem fields = take 3 (sorts_of fields) ≡ name ∷ name ∷ name ∷ []
+
+-- the first of some fields are those of an item of a proof and of its place
+abbrev pub BeginsPlaced : List Field → Type 0
+BeginsPlaced fields = take 5 (sorts_of fields) ≡ name ∷ name ∷ name ∷ name ∷ before ∷ []

@@ -1,13 +1,10 @@
 -- The parts that commands are made of: what each is spelled by, what reads it, and what is meant by it.
-use Rattle.std.specs.Prelude.{ℕ, List, [], ◌∷◌, Option, Some, None, codes}
-use Rattle.mu_tree.specs.declared.trees.Tree.{Tree}
-use Rattle.mu_tree.specs.declared.claim.Claim.{Claim}
-use Rattle.mu_tree.specs.declared.why.Why.{Why}
+use Rattle.std.specs.Prelude.{ℕ, List, [], Option, Some, None, codes}
 use Rattle.mu_grammar.specs.declared.declared.DeclaredConstant.{DeclaredConstant}
 use Rattle.mu_grammar.specs.Lexemes.{Lexeme}
-use Rattle.mu_grammar.specs.Parts.{Out, Same, Then, chain}
-use Rattle.mu_grammar.specs.SimpleParts.{AnyName, PlainName, GivenMark, GivenWord, StandsName, is_word, read_mark, read_word, read_name, read_plain_name}
-use Rattle.mu_grammar.specs.Groups.{Optional, optional, StandsOptional}
+use Rattle.mu_grammar.specs.Parts.{Out, StandsEach}
+use Rattle.mu_grammar.specs.SimpleParts.{AnyName, PlainName, GivenMark, GivenWord, StandsName, read_mark, read_word, read_name, read_plain_name}
+use Rattle.mu_grammar.specs.Groups.{Behind, Formals, Optional, perhaps, StandsOptional, read_formals}
 use Rattle.mu_grammar.specs.Declarations.{IsDeclaration, StandsDeclaration, read_declaration}
 use Rattle.mu_grammar.specs.Writings.{Writing, tree_of}
 use Rattle.mu_grammar.specs.Trees.{OneTree, read_tree}
@@ -16,7 +13,7 @@ use Rattle.mu_grammar.specs.Reasons.{Reason, IsReason, StandsReason, why_of, tre
 use Rattle.mu_grammar.specs.Blocks.{BlockWriting, IsBlock, StandsBlock, block_of, trees_in_block, read_block}
 use Rattle.mu_grammar.specs.Excesses.{StandsTree, one_tree}
 use Rattle.mu_command.specs.declared.parts.Keyword.{Keyword}
-use Rattle.mu_command.specs.declared.parts.Keyword.TheVariants.{In}
+use Rattle.mu_command.specs.declared.parts.Keyword.TheVariants.{In, To}
 use Rattle.mu_command.specs.declared.parts.Part.{Part}
 use Rattle.mu_command.specs.declared.parts.Part.TheVariants as part
 use Rattle.mu_command.specs.declared.parts.Field.{Field}
@@ -25,6 +22,7 @@ use Rattle.mu_command.specs.declared.parts.Field.TheVariants as field
 -- the bytes of a keyword
 abbrev pub keyword_text : Keyword → List ℕ
 keyword_text In = codes "in"
+keyword_text To = codes "to"
 
 -- what a part is spelled for
 abbrev pub Value : Part → Type 0
@@ -33,6 +31,7 @@ Value part.Plain = List ℕ
 Value (part.Word keyword) = Unit {0}
 Value (part.Sign m) = Unit {0}
 Value part.Declaration = DeclaredConstant
+Value part.Formals = List (List ℕ)
 Value part.Before = Option (List ℕ)
 Value part.Tree = Writing
 Value part.Claim = Sentence
@@ -41,7 +40,7 @@ Value part.Block = BlockWriting
 
 -- `before` and a name
 abbrev pub IsBefore : List Lexeme → List ℕ → Type 0
-IsBefore ts text = Then (GivenWord (codes "before")) (λ _ l y. AnyName l y) ts text
+IsBefore ts text = Behind (codes "before") AnyName ts text
 
 -- the tokens spell the value of the part
 abbrev pub SpellsPart : (each : Part) → List Lexeme → Value each → Type 0
@@ -50,6 +49,7 @@ SpellsPart part.Plain ts v = PlainName ts v
 SpellsPart (part.Word keyword) ts v = GivenWord (keyword_text keyword) ts v
 SpellsPart (part.Sign m) ts v = GivenMark m ts v
 SpellsPart part.Declaration ts v = IsDeclaration ts v
+SpellsPart part.Formals ts v = Formals ts v
 SpellsPart part.Before ts v = Optional IsBefore ts v
 SpellsPart part.Tree ts v = OneTree ts v
 SpellsPart part.Claim ts v = IsClaim ts v
@@ -58,7 +58,7 @@ SpellsPart part.Block ts v = IsBlock ts v
 
 -- reads `before` and a name, where the word stands
 unfoldable pub read_before : List Lexeme → Out (Option (List ℕ))
-read_before ts = optional (is_word (codes "before")) (chain (read_word (codes "before")) (λ _ l. read_name l)) ts
+read_before ts = perhaps (codes "before") read_name ts
 
 -- reads the part
 abbrev pub read_part : (each : Part) → List Lexeme → Out (Value each)
@@ -67,6 +67,7 @@ read_part part.Plain ts = read_plain_name ts
 read_part (part.Word keyword) ts = read_word (keyword_text keyword) ts
 read_part (part.Sign m) ts = read_mark m ts
 read_part part.Declaration ts = read_declaration ts
+read_part part.Formals ts = read_formals ts
 read_part part.Before ts = read_before ts
 read_part part.Tree ts = read_tree ts
 read_part part.Claim ts = read_claim ts
@@ -80,6 +81,7 @@ said part.Plain v = Some (field.Name v)
 said (part.Word keyword) v = None
 said (part.Sign m) v = None
 said part.Declaration v = Some (field.Declaration v)
+said part.Formals v = Some (field.Formals v)
 said part.Before v = Some (field.Before v)
 said part.Tree v = Some (field.Tree (tree_of v))
 said part.Claim v = Some (field.Claim (claim_of v))
@@ -101,6 +103,7 @@ StandsPart part.Plain v (Some (field.Name kept)) = StandsName v kept
 StandsPart (part.Word keyword) v None = Unit {0}
 StandsPart (part.Sign m) v None = Unit {0}
 StandsPart part.Declaration v (Some (field.Declaration kept)) = StandsDeclaration v kept
+StandsPart part.Formals v (Some (field.Formals kept)) = StandsEach StandsName v kept
 StandsPart part.Before v (Some (field.Before kept)) = StandsOptional StandsName v kept
 StandsPart part.Tree v (Some (field.Tree kept)) = StandsTree v kept
 StandsPart part.Claim v (Some (field.Claim kept)) = StandsClaim v kept

@@ -8,6 +8,7 @@ use Rattle.mu_command.specs.declared.parts.Shown.TheVariants as shown
 abbrev pub shown_as : Shown → Field
 shown_as (shown.Name name) = field.Name name.now
 shown_as (shown.Declaration name shape result) = field.Declaration (record { name = name.now; shape = shape.now; result = result })
+shown_as (shown.Formals names) = field.Formals names.now
 shown_as (shown.Before item) = field.Before item.now
 shown_as (shown.Tree tree) = field.Tree tree.now
 shown_as (shown.Claim claim) = field.Claim claim.now

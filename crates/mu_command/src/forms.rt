@@ -10,32 +10,64 @@ use mu_grammar::{PartFault, Sort, Word};
 use mu_tables::forms;
 use mu_text::Reader;
 
-/// The forms of commands.
+/// The forms of commands, with their numbers in the table of words.
 #[derive(Clone, Copy, Debug, PartialEq, Eq)]
 pub(crate) enum Form {
-    Theory,
-    Const,
-    Axiom,
-    Rule,
-    Proof,
-    Line,
-    Box,
-    Cite,
-    Status,
-    ShowRule,
-    ShowProof,
+    Theory = 1,
+    Parent = 2,
+    Unparent = 3,
+    Const = 4,
+    AlterConst = 5,
+    Define = 6,
+    Undefine = 7,
+    Axiom = 8,
+    Rule = 9,
+    AlterRule = 10,
+    Proof = 11,
+    Line = 12,
+    Box = 13,
+    AlterLine = 14,
+    AlterBox = 15,
+    Move = 16,
+    Cite = 17,
+    Unjustify = 18,
+    DropUnit = 19,
+    DropConst = 20,
+    DropRule = 21,
+    DropProof = 22,
+    DropItem = 23,
+    Status = 24,
+    ShowUnit = 25,
+    ShowRule = 26,
+    ShowProof = 27,
 }
 
-const ALL: [Form; 11] = [
+const ALL: [Form; 27] = [
     Form::Theory,
+    Form::Parent,
+    Form::Unparent,
     Form::Const,
+    Form::AlterConst,
+    Form::Define,
+    Form::Undefine,
     Form::Axiom,
     Form::Rule,
+    Form::AlterRule,
     Form::Proof,
     Form::Line,
     Form::Box,
+    Form::AlterLine,
+    Form::AlterBox,
+    Form::Move,
     Form::Cite,
+    Form::Unjustify,
+    Form::DropUnit,
+    Form::DropConst,
+    Form::DropRule,
+    Form::DropProof,
+    Form::DropItem,
     Form::Status,
+    Form::ShowUnit,
     Form::ShowRule,
     Form::ShowProof,
 ];
@@ -44,19 +76,7 @@ const ALL: [Form; 11] = [
 fn number(form: Form) -> u8
     ensures { result ≡ number form }
 {
-    match form {
-        Form::Theory => 1,
-        Form::Const => 2,
-        Form::Axiom => 3,
-        Form::Rule => 4,
-        Form::Proof => 5,
-        Form::Line => 6,
-        Form::Box => 7,
-        Form::Cite => 8,
-        Form::Status => 9,
-        Form::ShowRule => 10,
-        Form::ShowProof => 11,
-    }
+    form as u8
 }
 
 /// The words of a form, with one blank between each two.

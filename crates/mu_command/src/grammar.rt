@@ -1,9 +1,10 @@
 ghost use Rattle.mu_command.specs.Grammar.{GivesCommand};
 
 use crate::command::Command;
+use crate::fields::read_row;
 use crate::forms::read_form;
 use crate::making::make;
-use crate::rows::{read_row, row};
+use crate::rows::row;
 use mu_grammar::{Excess, PartFault};
 use mu_text::Reader;
 use std::alloc::Global;
@@ -14,7 +15,7 @@ use std::alloc::Global;
 ///
 /// `Mismatch` at the first token with which no command goes on. `NoMemory`, at any tokens.
 #[tactic(auto, using(crate::proofs::FormLemmas::form_stops, crate::proofs::FormLemmas::command_stops, crate::proofs::FormLemmas::row_is_sorted, crate::proofs::FormLemmas::command_made))]
-pub fn read_command(
+pub(crate) fn read_command(
     alloc: Global,
     reader: &mut Reader,
     excess: &mut Excess,

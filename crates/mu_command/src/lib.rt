@@ -3,14 +3,15 @@
 
 mod canonical;
 mod command;
+mod fields;
 mod forms;
 mod grammar;
+mod lines;
 mod making;
 mod parts;
-mod readings;
+mod printing;
 mod rows;
 
 pub use canonical::print;
 pub use command::Command;
-pub use grammar::read_command;
-pub use readings::{Reading, read};
+pub use lines::{LONGEST_LINE, LineFault, read_line};

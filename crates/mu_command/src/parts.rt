@@ -1,10 +1,11 @@
 use mu_grammar::{DeclaredConstant, Mark};
-use mu_tree::{Claim, Kind, Name, Sequence, Shape, Tree, Trees, TypedVars, Why};
+use mu_tree::{Claim, Kind, Name, Names, Sequence, Shape, Tree, Trees, TypedVars, Why};
 
 /// A word that stands between the parts of a form.
 #[derive(Clone, Copy, Debug, PartialEq, Eq)]
 pub enum Keyword {
     In,
+    To,
 }
 
 /// A part of a form, behind the words that it begins with.
@@ -18,6 +19,8 @@ pub enum Part {
     Sign(Mark),
     /// The declaration of a constant.
     Declaration,
+    /// The formal parameters of a definition; there may be none.
+    Formals,
     /// The item before which another is put; it may be left out.
     Before,
     Tree,
@@ -33,6 +36,7 @@ pub enum Part {
 pub enum Field {
     Name(Name),
     Declaration(DeclaredConstant),
+    Formals(Names),
     Before(Option<Name>),
     Tree(Tree),
     Claim(Claim),
@@ -48,6 +52,7 @@ pub type Fields = Sequence<Field>;
 pub enum Shown<'a> {
     Name(&'a Name),
     Declaration(&'a Name, &'a Shape, Kind),
+    Formals(&'a Names),
     Before(&'a Option<Name>),
     Tree(&'a Tree),
     Claim(&'a Claim),

@@ -15,7 +15,7 @@ use Rattle.mu_flat.specs.Entries.{Entries}
 use Rattle.mu_flat.proofs.CircleLemmas.{told_acyclic}
 use Rattle.mu_flat.proofs.Citing.{empty_leads, item_leads}
 use Rattle.mu_command.specs.declared.command.Command.{Command}
-use Rattle.mu_command.specs.declared.command.Command.TheVariants.{Theory, Const, Axiom, Rule, Proof, Line, Box, Cite, Status, ShowRule, ShowProof}
+use Rattle.mu_command.specs.declared.command.Command.TheVariants.{Theory, Const, Axiom, Rule, Proof, Line, Box, Cite}
 use Rattle.mu_edit.specs.Changes.{refusal, changed}
 use Rattle.mu_edit.specs.Distinct.{repeated_in_reason}
 
@@ -45,6 +45,4 @@ changed_acyclic e (Cite rule proof label why) acyclic free =
     let cited : cite_refusal e rule proof label why ≡ None = second (repeated_in_reason why) _ (second (missing_refusal e rule proof label) _ free) in
     told_acyclic (with_reason_at e.proofs rule proof label (Some why))
     (no_circle (first_circle (with_reason_at e.proofs rule proof label (Some why))) (second (missing_refusal e rule proof label) (circle_refusal e rule proof label why) cited))
-changed_acyclic e (Status rule) acyclic free = acyclic
-changed_acyclic e (ShowRule rule) acyclic free = acyclic
-changed_acyclic e (ShowProof rule proof) acyclic free = acyclic
+changed_acyclic e _ acyclic free = acyclic

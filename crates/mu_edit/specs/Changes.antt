@@ -16,7 +16,7 @@ use Rattle.mu_flat.specs.ProofTables.{proof_at}
 use Rattle.mu_flat.specs.Edits.{cite_refusal, item_refusal, missing_refusal, place_refusal, with_item, with_reason}
 use Rattle.mu_flat.specs.Entries.{Entries, IsPlain, with_theory, with_constant, with_rule, with_items}
 use Rattle.mu_command.specs.declared.command.Command.{Command}
-use Rattle.mu_command.specs.declared.command.Command.TheVariants.{Theory, Const, Axiom, Rule, Proof, Line, Box, Cite, Status, ShowRule, ShowProof}
+use Rattle.mu_command.specs.declared.command.Command.TheVariants.{Theory, Const, Axiom, Rule, Proof, Line, Box, Cite}
 use Rattle.mu_edit.specs.Distinct.{repeated_in_claim, repeated_in_item, repeated_in_reason}
 
 -- a name must be there
@@ -54,9 +54,7 @@ refusal e (Proof rule proof) = taken_where (is_some (proof_at e.proofs rule proo
 refusal e (Line rule proof label block before tree) = put_refusal e rule proof block before (item.Line label tree None)
 refusal e (Box rule proof label block before vars assumptions) = put_refusal e rule proof block before (item.Block label vars assumptions [])
 refusal e (Cite rule proof label why) = reason_refusal e rule proof label why
-refusal e (Status rule) = None
-refusal e (ShowRule rule) = None
-refusal e (ShowProof rule proof) = None
+refusal e _ = None
 
 -- the store after a command that is not refused
 unfoldable pub changed : Entries → Command → Entries
@@ -68,9 +66,7 @@ changed e (Proof rule proof) = with_items e rule proof []
 changed e (Line rule proof label block before tree) = with_item e rule proof block before (item.Line label tree None)
 changed e (Box rule proof label block before vars assumptions) = with_item e rule proof block before (item.Block label vars assumptions [])
 changed e (Cite rule proof label why) = with_reason e rule proof label why
-changed e (Status rule) = e
-changed e (ShowRule rule) = e
-changed e (ShowProof rule proof) = e
+changed e _ = e
 
 -- what a command would store may be stored: what it declares has a plain name that is not the base theory's
 abbrev pub IsStorable : Command → Type 0

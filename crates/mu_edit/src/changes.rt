@@ -12,7 +12,7 @@ use mu_proof::{Item, ItemList};
 use mu_tree::{Claim, Kind, Name, Refusal, Shape, Why};
 use std::alloc::Global;
 
-/// Carries out a command. A query changes nothing.
+/// Carries out a command. A query changes nothing, and neither does a form that is read alone.
 ///
 /// # Errors
 ///
@@ -48,9 +48,7 @@ pub fn apply(alloc: Global, store: &mut Store, command: Command) -> Result<(), E
             put(alloc, store, &rule, &proof, &block, before.as_ref(), item)
         }
         Command::Cite(rule, proof, label, why) => cite(alloc, store, &rule, &proof, &label, why),
-        Command::Status(_) => Ok(()),
-        Command::ShowRule(_) => Ok(()),
-        Command::ShowProof(_, _) => Ok(()),
+        _ => Ok(()),
     }
 }
 

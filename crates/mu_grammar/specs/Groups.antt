@@ -72,6 +72,14 @@ Parameters ts names = Bracketed OpenBracket CloseBracket SomeVars ts names
 unfoldable pub read_parameters : List Lexeme → Out (List (List ℕ))
 read_parameters ts = bracketed OpenBracket CloseBracket read_vars ts
 
+-- the formal parameters of a definition: variables between commas, in parentheses; where there are none, no token
+abbrev pub Formals : List Lexeme → List (List ℕ) → Type 0
+Formals ts names = Bracketed Open Close SomeVars ts names
+
+-- reads the formal parameters of a definition
+unfoldable pub read_formals : List Lexeme → Out (List (List ℕ))
+read_formals ts = bracketed Open Close read_vars ts
+
 -- the kinds of a constant's arguments: between commas, in parentheses; where there are none, no token
 abbrev pub ArgumentKinds : List Lexeme → List Kind → Type 0
 ArgumentKinds ts kinds = Bracketed Open Close SomeKinds ts kinds

@@ -16,7 +16,6 @@ pub mod Reasons
 pub mod References
 pub mod Rows
 pub mod SimpleParts
-pub mod Spacing
 pub mod Spellings
 pub mod Texts
 pub mod Tokens

@@ -76,7 +76,7 @@ printed_claim ts (h ∷ hs) w readable g none_before none =
       means = cc (p.means, q.means);
     }
 
-reprints_claim : Reprints IsClaim trees_in_claim claim_of claim_text
+pub reprints_claim : Reprints IsClaim trees_in_claim claim_of claim_text
 reprints_claim = record {
   reprint = λ ts x readable g none.
       let parts = none_together (in_each trees_in_hypothesis x.hyps) (one_tree x.conclusion) none in

@@ -2,6 +2,7 @@ pub mod Again
 pub mod BlocksBack
 pub mod Canon
 pub mod ClaimsBack
+pub mod DeclarationsBack
 pub mod GroupsBack
 pub mod HeadsBack
 pub mod Lines

@@ -148,11 +148,11 @@ printed_reference ts (ref.Hypothesis n) readable g =
 pub reprints_reference : Reprints IsReference no_trees itself reference_text
 reprints_reference = record { reprint = λ ts x readable g none. printed_reference ts x readable g }
 
-no_trees_in : {A : Type 0} (xs : List A) → excess_of (in_each no_trees xs) ≡ no_excess
+pub no_trees_in : {A : Type 0} (xs : List A) → excess_of (in_each no_trees xs) ≡ no_excess
 no_trees_in [] = refl
 no_trees_in (x ∷ xs) = no_trees_in xs
 
-map_itself : {A : Type 0} (xs : List A) → map itself xs ≡ xs
+pub map_itself : {A : Type 0} (xs : List A) → map itself xs ≡ xs
 map_itself [] = refl
 map_itself (x ∷ xs) = ap (λ l. x ∷ l) (map_itself xs)
 

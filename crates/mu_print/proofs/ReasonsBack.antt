@@ -160,7 +160,10 @@ printed_reason ts (by_same on) readable g none =
     let p = (reprints_behind same_word reprints_reference).reprint ts on readable g refl in
     record { value = by_same p.value; spelled = p.spelled; lexed = p.lexed; spells = p.spells; limits = refl; means = ap why.Same p.means }
 
+pub reprints_reason : Reprints IsReason trees_in_reason why_of reason_text
+reprints_reason = record { reprint = printed_reason }
+
 -- each reason that some text reads as is what its canonical text reads as
 pub reasons_read_back : ReasonsReadBack
 unfolding ReasonsReadBack
-reasons_read_back = reads_back IsReason trees_in_reason why_of reason_text (record { reprint = printed_reason })
+reasons_read_back = reads_back IsReason trees_in_reason why_of reason_text reprints_reason

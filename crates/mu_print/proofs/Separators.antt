@@ -4,7 +4,7 @@ use Rattle.std.specs.Prelude.{codes}
 use Rattle.mu_tree.specs.Names.{IsName}
 use Rattle.mu_grammar.specs.declared.symbol.Word.TheVariants.{Plain}
 use Rattle.mu_grammar.specs.declared.symbol.Mark.{Mark}
-use Rattle.mu_grammar.specs.declared.symbol.Mark.TheVariants.{Comma, Semicolon, Turnstile, Becomes, Open, Close, OpenBracket, CloseBracket, OpenBrace, CloseBrace}
+use Rattle.mu_grammar.specs.declared.symbol.Mark.TheVariants.{Comma, Semicolon, Turnstile, Becomes, Arrow, Open, Close, OpenBracket, CloseBracket, OpenBrace, CloseBrace}
 use Rattle.mu_grammar.specs.Tokens.{first_token}
 use Rattle.mu_grammar.specs.Lexemes.{word, mark}
 use Rattle.mu_print.specs.Sound.{RightLexeme}
@@ -14,7 +14,7 @@ use Rattle.mu_print.proofs.Again.{Fixed}
 fixed_mark : (text : List ℕ) (sign : Mark) → RightLexeme (mark sign) → ((r : List ℕ) → scan 0 (text ++ r) ≡ mark sign ∷ scan 0 r) → Fixed text (mark sign ∷ [])
 fixed_mark text sign right lexes = record { lexes = lexes; right = (right, tt); within = (tt, tt) }
 
-fixed_word : (text led_by : List ℕ) → IsName led_by → ((r : List ℕ) → scan 0 (text ++ r) ≡ word Plain led_by ∷ scan 0 r) → Fixed text (word Plain led_by ∷ [])
+pub fixed_word : (text led_by : List ℕ) → IsName led_by → ((r : List ℕ) → scan 0 (text ++ r) ≡ word Plain led_by ∷ scan 0 r) → Fixed text (word Plain led_by ∷ [])
 fixed_word text led_by name lexes = record { lexes = lexes; right = (tt, tt); within = (name, tt) }
 
 pub comma : Fixed (codes ", ") (mark Comma ∷ [])
@@ -32,6 +32,10 @@ turnstile = fixed_mark (codes " |- ") Turnstile tt (λ r. refl)
 pub becomes : Fixed (codes " := ") (mark Becomes ∷ [])
 unfolding first_token
 becomes = fixed_mark (codes " := ") Becomes tt (λ r. refl)
+
+pub arrow : Fixed (codes " -> ") (mark Arrow ∷ [])
+unfolding first_token
+arrow = fixed_mark (codes " -> ") Arrow tt (λ r. refl)
 
 pub open_paren : Fixed (codes "(") (mark Open ∷ [])
 unfolding first_token

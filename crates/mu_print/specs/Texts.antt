@@ -88,6 +88,10 @@ shape_text (shape.Binder body) = codes "{" ++ (kind_text body ++ codes "}")
 unfoldable pub declaration_text : List ℕ → Shape → Kind → List ℕ
 declaration_text name shape result = name ++ (shape_text shape ++ (codes " -> " ++ kind_text result))
 
+-- the formal parameters of a definition, in parentheses; nothing where there are none
+abbrev pub formals_text : List (List ℕ) → List ℕ
+formals_text names = surrounded (codes "(") (codes ", ") (codes ")") names
+
 -- the inputs of a head, in parentheses
 abbrev pub inputs_text : List TypedVar → List ℕ
 inputs_text vars = codes "(" ++ (between (codes ", ") (map variable_text vars) ++ codes ")")

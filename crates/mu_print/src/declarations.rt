@@ -1,8 +1,8 @@
 ghost use Rattle.std.specs.Prelude.{◌≡◌, ◌++◌, OnOk};
-ghost use Rattle.mu_print.specs.Texts.{declaration_text, kind_text, shape_text};
+ghost use Rattle.mu_print.specs.Texts.{declaration_text, formals_text, kind_text, shape_text};
 
 use crate::pieces::{Printed, add, surround};
-use mu_tree::{Kind, Name, Shape};
+use mu_tree::{Kind, Name, Names, Shape};
 use std::alloc::AllocError;
 
 impl Printed for Kind {
@@ -31,6 +31,17 @@ pub fn declaration(
     usage(out, shape)?;
     add(out, b" -> ")?;
     kind(out, result_kind)
+}
+
+/// Adds the formal parameters of a definition at the end, in parentheses; nothing where there are none.
+///
+/// # Errors
+///
+/// `AllocError`, with some of the text added.
+pub fn formals(out: &mut Vec<u8>, names: &Names) -> Result<(), AllocError>
+    ensures { OnOk result (out.new.items ≡ out.old.items ++ formals_text names.now) }
+{
+    surround(out, b"(", b", ", b")", names.items())
 }
 
 /// Adds how a constant is used.

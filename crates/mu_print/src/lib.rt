@@ -11,7 +11,7 @@ mod reasons;
 
 pub use canonical::{mark_text, tree};
 pub use claims::{block, claim};
-pub use declarations::declaration;
+pub use declarations::{declaration, formals};
 pub use heads::head;
 pub use prints::{print_box, print_claim, print_head, print_tree, print_why};
 pub use reasons::reason;

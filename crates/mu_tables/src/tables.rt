@@ -21,22 +21,38 @@ macro_rules! operators {
 }
 
 /// The forms of commands: the words that a command of the form begins with, with one blank between each two.
-pub fn forms() -> Words<11>
+pub fn forms() -> Words<27>
     ensures { rows_of result.rows.now ≡ the_forms }
 {
     Words {
         rows: words! {
-            "axiom" 3;
-            "box" 7;
-            "cite" 8;
-            "const" 2;
-            "line" 6;
-            "proof" 5;
-            "rule" 4;
-            "show proof" 11;
-            "show rule" 10;
-            "status" 9;
+            "alter box" 15;
+            "alter const" 5;
+            "alter line" 14;
+            "alter rule" 10;
+            "axiom" 8;
+            "box" 13;
+            "cite" 17;
+            "const" 4;
+            "define" 6;
+            "drop const" 20;
+            "drop item" 23;
+            "drop proof" 22;
+            "drop rule" 21;
+            "drop unit" 19;
+            "line" 12;
+            "move" 16;
+            "parent" 2;
+            "proof" 11;
+            "rule" 9;
+            "show proof" 27;
+            "show rule" 26;
+            "show unit" 25;
+            "status" 24;
             "theory" 1;
+            "undefine" 7;
+            "unjustify" 18;
+            "unparent" 3;
         },
     }
 }
@@ -86,9 +102,9 @@ mod tests {
 
     #[test]
     fn finds_rows(rt: HostRuntime) {
-        assert!(rt; forms().find(b"cite") == Some(8));
+        assert!(rt; forms().find(b"cite") == Some(17));
         assert!(rt; forms().find(b"cites").is_none());
-        assert!(rt; forms().find_behind(b"show ", b"rule") == Some(10));
+        assert!(rt; forms().find_behind(b"show ", b"rule") == Some(26));
         assert!(rt; forms().lengthened(b"", b"show").is_some());
         assert!(rt; operators().by_text(b"=>").map(|op| op.side) == Some(Side::Right));
     }

@@ -6,7 +6,7 @@ use Rattle.mu_grammar.specs.Lexemes.{Lexeme, mark}
 use Rattle.mu_grammar.specs.Marks.{is_mark}
 use Rattle.mu_grammar.specs.Parts.{Out, Nothing, given_back, Then, chain, Or}
 use Rattle.mu_grammar.specs.SimpleParts.{GivenMark, GivenWord, SomeKinds, SomeVars, is_word, read_mark, read_word, read_kinds, read_vars}
-use Rattle.mu_grammar.specs.Groups.{Enclosed, enclosed, Optional, optional, Any, any, Behind, behind, perhaps, Bracketed, bracketed, ArgumentKinds, read_argument_kinds, Parameters, read_parameters}
+use Rattle.mu_grammar.specs.Groups.{Enclosed, enclosed, Optional, optional, Any, any, Behind, behind, perhaps, Bracketed, bracketed, ArgumentKinds, read_argument_kinds, Parameters, read_parameters, Formals, read_formals}
 use Rattle.mu_text.proofs.Marks.{own_mark}
 use Rattle.mu_text.proofs.Choice.{Passes, Fails, Exact-either}
 use Rattle.mu_text.proofs.Exact.{Exact, Exact-same, Exact-chain, Exact-pure, Exact-before}
@@ -140,6 +140,10 @@ NoOpen rest = Fails (is_mark Open) rest
 pub Exact-argument_kinds : Exact read_argument_kinds ArgumentKinds NoOpen
 unfolding read_argument_kinds
 Exact-argument_kinds = Exact-bracketed Open Close read_kinds SomeKinds NoComma Exact-kinds (λ rest. (tt, refl)) (λ ts g. g)
+
+pub Exact-formals : Exact read_formals Formals NoOpen
+unfolding read_formals
+Exact-formals = Exact-bracketed Open Close read_vars SomeVars NoComma Exact-vars (λ rest. (tt, refl)) (λ ts g. g)
 
 -- no list of parameters begins here
 abbrev pub NoBracket : List Lexeme → Type 0

@@ -22,7 +22,6 @@ pub mod Reasons
 pub mod References
 pub mod Rows
 pub mod Simple
-pub mod Spacing
 pub mod Steps
 pub mod Trees
 pub mod Turns

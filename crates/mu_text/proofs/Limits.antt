@@ -16,11 +16,11 @@ use Rattle.mu_tree.specs.declared.why.Why.TheVariants as why
 use Rattle.mu_grammar.specs.declared.symbol.Word.{Word}
 use Rattle.mu_grammar.specs.declared.symbol.Word.TheVariants.{Plain, Dotted, True, Meta, Place}
 use Rattle.mu_grammar.specs.declared.symbol.Mark.{Mark}
-use Rattle.mu_grammar.specs.declared.symbol.Mark.TheVariants.{And, Or, Not, Comma, Semicolon, OpenBracket, CloseBracket, Close, CloseBrace, Dot, Becomes, Bar, Turnstile, Arrow}
+use Rattle.mu_grammar.specs.declared.symbol.Mark.TheVariants.{And, Or, Not, Comma, Semicolon, OpenBracket, CloseBracket, Open, Close, CloseBrace, Dot, Becomes, Bar, Turnstile, Arrow}
 use Rattle.mu_grammar.specs.Lexemes.{Lexeme, word, mark}
 use Rattle.mu_grammar.specs.Parts.{More, Separated, StandsEach}
 use Rattle.mu_grammar.specs.SimpleParts.{plain_name_of, name_of, var_of, meta_of, PlainName, AnyName, VarName, SomeVars, StandsName}
-use Rattle.mu_grammar.specs.Groups.{Any, Behind, Enclosed, Optional, StandsOptional, Parameters}
+use Rattle.mu_grammar.specs.Groups.{Any, Behind, Bracketed, Enclosed, Optional, StandsOptional, Formals}
 use Rattle.mu_grammar.specs.Writings.{Writing, Writings, leaf, apply, bind, paren, neg, bin, one, more, tokens, tokens_of, closer, is_head, Fits, FitsAll, Short, ShortAll, tree_of}
 use Rattle.mu_grammar.specs.Trees.{OneTree}
 use Rattle.mu_grammar.specs.References.{IsReference, SomeReferences, StandsReference}
@@ -256,20 +256,23 @@ claim-meant ts x y h g e s =
 parameter_meant : (ts : List Lexeme) (text name : List ℕ) → WithinTokens ts → VarName ts text → Nothing text → StandsName text name → name ≡ text
 parameter_meant ts text name h g p s = s (var-keeps ts text h g)
 
-parameters_meant : (ts : List Lexeme) (xs ys : List (List ℕ)) → WithinTokens ts → Parameters ts xs → StandsEach StandsName xs ys → ys ≡ xs
-parameters_meant ts xs ys h g s =
-    any_meant (Enclosed OpenBracket CloseBracket SomeVars) Nothing StandsName (λ x. x)
+bracketed_vars_meant : (left right : Mark) (ts : List Lexeme) (xs ys : List (List ℕ)) → WithinTokens ts → Bracketed left right SomeVars ts xs → StandsEach StandsName xs ys → ys ≡ xs
+bracketed_vars_meant left right ts xs ys h g s =
+    any_meant (Enclosed left right SomeVars) Nothing StandsName (λ x. x)
     (λ us names kept k f p t.
-    separated_meant VarName Nothing StandsName (λ x. x) parameter_meant Comma f.0 names kept (all_parts WithinToken f.0 (mark CloseBracket ∷ []) (at f.1 k).1).0 f.2 p t)
+    separated_meant VarName Nothing StandsName (λ x. x) parameter_meant Comma f.0 names kept (all_parts WithinToken f.0 (mark right ∷ []) (at f.1 k).1).0 f.2 p t)
     ts xs ys h g (no_more xs) s
     ∙ map_same xs
+
+pub formals-meant : IsMeant Formals no_trees (StandsEach StandsName) (λ names. names)
+formals-meant ts xs ys h g e s = bracketed_vars_meant Open Close ts xs ys h g s
 
 abstraction_meant : (ts : List Lexeme) (x : AbstractionWriting) (y : Given) → WithinTokens ts → IsAbstraction ts x → excess_of (trees_in_abstraction x) ≡ no_excess → StandsAbstraction x y → y ≡ given_of x
 abstraction_meant ts x y h g e s =
     let k = at g.2 h in
     let parts = all_parts WithinToken g.0 (mark Becomes ∷ g.1) k.1 in
     ap (λ m. record { meta = m; params = y.params; body = y.body }) (s.0 k.0)
-    ∙ (ap (λ ps. record { meta = x.meta; params = ps; body = y.body }) (parameters_meant g.0 x.params y.params parts.0 g.3 s.1)
+    ∙ (ap (λ ps. record { meta = x.meta; params = ps; body = y.body }) (bracketed_vars_meant OpenBracket CloseBracket g.0 x.params y.params parts.0 g.3 s.1)
     ∙ ap (λ t. record { meta = x.meta; params = x.params; body = t }) (tree-meant g.1 x.body y.body parts.1.1 g.4 e s.2))
 
 references_meant : (ts : List Lexeme) (refs kept : List Ref) → WithinTokens ts → Led (codes "from") SomeReferences ts refs → StandsEach StandsReference refs kept → kept ≡ refs

@@ -37,7 +37,7 @@ refused {A} G ts seen rest e b h u =
         g T r refl (subst (Begins G) same c)
 
 module _ {A : Type 0} (p : List Lexeme → Out A) (G : List Lexeme → A → Type 0) (P : Exact p G End) where
-  reads_it : (ts : List Lexeme) (x : A) → G ts x → p ts ≡ found x []
+  pub reads_it : (ts : List Lexeme) (x : A) → G ts x → p ts ≡ found x []
   reads_it ts x g = sym (ap p (append-nil ts)) ∙ P.full ts x [] g refl
 
   never : (seen : List Lexeme) (T : Lexeme) → ((other : List Lexeme) (x : A) → p (seen ++ (T ∷ other)) ≡ found x [] → ⊥) → Begins G (seen ++ (T ∷ [])) → ⊥

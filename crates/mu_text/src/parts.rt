@@ -5,7 +5,7 @@ ghost use Rattle.std.specs.Prelude.{◌≡◌, ◌↔◌, IsTrue, true, Some, No
 ghost use Rattle.mu_tree.specs.Names.{is_digit as digit_test};
 ghost use Rattle.std.specs.List.{list_all};
 ghost use Rattle.mu_grammar.specs.declared.fault.PartFault.TheVariants as fault;
-ghost use Rattle.mu_grammar.specs.Groups.{read_argument_kinds, read_parameters};
+ghost use Rattle.mu_grammar.specs.Groups.{read_argument_kinds, read_formals, read_parameters};
 ghost use Rattle.mu_grammar.specs.Marks.{is_mark};
 ghost use Rattle.mu_grammar.specs.Parts.{Gives, Same, StandsEach, at_end, first_as, starts};
 ghost use Rattle.mu_grammar.specs.SimpleParts.{StandsName, is_number as number_test, is_word as word_test, name_of, kind_of, number_from, number_of, place_of, plain_name_of, read_kind, read_kinds, read_mark, read_meta, read_name, read_place, read_plain_name, read_var, read_vars, read_word};
@@ -362,6 +362,25 @@ pub fn parameters(alloc: Global, reader: &mut Reader) -> Result<Names, PartFault
     mark(reader, Mark::OpenBracket)?;
     let read = vars(alloc, reader)?;
     mark(reader, Mark::CloseBracket)?;
+    Ok(read)
+}
+
+/// Reads the formal parameters of a definition: variables between commas, in parentheses. Where there are none, no token is
+/// read.
+///
+/// # Errors
+///
+/// `Mismatch` at the first token with which no such part goes on. `NoMemory`.
+#[tactic(auto, unfolding(mu_grammar::specs::Groups::read_formals))]
+pub fn formals(alloc: Global, reader: &mut Reader) -> Result<Names, PartFault>
+    ensures { Gives (StandsEach StandsName) (read_formals reader.old) result reader.new }
+{
+    if !sees(reader, Mark::Open) {
+        return Ok(Names::new(alloc));
+    }
+    mark(reader, Mark::Open)?;
+    let read = vars(alloc, reader)?;
+    mark(reader, Mark::Close)?;
     Ok(read)
 }
 

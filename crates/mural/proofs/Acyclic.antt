@@ -1,8 +1,8 @@
 -- After any lines no rule leads back to itself by what its proofs cite.
 use Rattle.std.proofs.Common.{Bool, ◌≡◌, refl, ℕ, true, false, List, [], ◌∷◌, Some, None}
-use Rattle.std.specs.Prelude.{Option, nat_lt, length, if◌then◌else◌}
+use Rattle.std.specs.Prelude.{Option, Result, Ok, Err, if◌then◌else◌}
 use Rattle.mu_tree.specs.declared.refusal.Refusal.{Refusal}
-use Rattle.mu_tree.specs.declared.refusal.Refusal.TheVariants.{Limit}
+use Rattle.mu_tree.specs.declared.refusal.Refusal.TheVariants.{LineTooLong, Limit}
 use Rattle.mu_tree.specs.declared.refusal.LimitWord.{LimitWord}
 use Rattle.mu_grammar.specs.Lexemes.{Lexeme, items_of}
 use Rattle.mu_graph.specs.Circles.{IsAcyclic}
@@ -10,12 +10,10 @@ use Rattle.mu_flat.specs.ProofTables.{leads}
 use Rattle.mu_flat.specs.Entries.{Entries, initial}
 use Rattle.mu_flat.proofs.Validity.{valid_initial}
 use Rattle.mu_command.specs.declared.command.Command.{Command}
-use Rattle.mu_command.specs.declared.readings.Reading.{Reading}
-use Rattle.mu_command.specs.declared.readings.Reading.TheVariants as reading
-use Rattle.mu_command.specs.Readings.{reading_of}
+use Rattle.mu_command.specs.Lines.{line_read}
 use Rattle.mu_edit.specs.Changes.{refusal}
 use Rattle.mu_edit.proofs.Acyclic.{changed_acyclic}
-use Rattle.mural.specs.Answers.{answer, answered, begins_in_base, carry_out, is_quiet, longest_line, no_command, outcome, past_limit, queried, read_out, step, step_by, touches_base}
+use Rattle.mural.specs.Answers.{answer, answered, begins_in_base, carry_out, is_barred, no_command, outcome, past_limit, queried, read_out, step, step_by}
 use Rattle.mural.specs.Replies.{entries_after}
 use Rattle.mural.specs.declared.reply.Reply.{Reply}
 use Rattle.mural.specs.declared.reply.Reply.TheVariants.{Refused}
@@ -37,30 +35,21 @@ unfolding step
 stepped e c sound = stepped_by e c sound (queried e c)
 
 carried : (e : Entries) (c : Command) → IsSound e → IsSound (carry_out e c).entries
-carried e c sound = elim (touches_base c) as (λ b. IsSound (if b then no_command e 1 else answered (step e c)).entries) [ true ↦ sound | false ↦ stepped e c sound ]
+carried e c sound = elim (is_barred c) as (λ b. IsSound (if b then no_command e 1 else answered (step e c)).entries) [ true ↦ sound | false ↦ stepped e c sound ]
 
 past_sound : (e : Entries) (ts : List Lexeme) (word : LimitWord) → IsSound e → IsSound (past_limit e ts word).entries
 past_sound e ts word sound = elim (begins_in_base ts) as (λ b. IsSound (if b then no_command e 1 else record { entries = e; reply = Some (Refused (Limit word)) }).entries) [ true ↦ sound | false ↦ sound ]
 
-read_so : (e : Entries) (ts : List Lexeme) (read : Reading) → IsSound e → IsSound (read_out e ts read).entries
-read_so e ts (reading.Command c) sound = carried e c sound
-read_so e ts (reading.Limit word) sound = past_sound e ts word sound
-read_so e ts (reading.Refused column) sound = sound
-
-unquiet : (e : Entries) (line : List ℕ) → IsSound e → IsSound (if is_quiet line then record { entries = e; reply = None } else read_out e (items_of line) (reading_of line)).entries
-unquiet e line sound =
-    elim (is_quiet line) as (λ b. IsSound (if b then record { entries = e; reply = None } else read_out e (items_of line) (reading_of line)).entries) [
-      | true ↦ sound
-      | false ↦ read_so e (items_of line) (reading_of line) sound
-    ]
+read_so : (e : Entries) (ts : List Lexeme) (read : Result (Option Command) Refusal) → IsSound e → IsSound (read_out e ts read).entries
+read_so e ts (Ok None) sound = sound
+read_so e ts (Ok (Some c)) sound = carried e c sound
+read_so e ts (Err (Limit word)) sound = past_sound e ts word sound
+read_so e ts (Err LineTooLong) sound = sound
+read_so e ts (Err _) sound = sound
 
 answered_so : (e : Entries) (line : List ℕ) → IsSound e → IsSound (answer e line).entries
 unfolding answer
-answered_so e line sound =
-    elim (nat_lt longest_line (length line)) as (λ b. IsSound (if b then no_command e 1 else (if is_quiet line then record { entries = e; reply = None } else read_out e (items_of line) (reading_of line))).entries) [
-      | true ↦ sound
-      | false ↦ unquiet e line sound
-    ]
+answered_so e line sound = read_so e (items_of line) (line_read line) sound
 
 after : (e : Entries) (lines : List (List ℕ)) → IsSound e → IsSound (entries_after e lines)
 after e [] sound = sound

@@ -1,9 +1,9 @@
 -- The laws hold.
 use Rattle.mu_status.specs.Statuses.{StatusesAreExact}
 use Rattle.mu_status.proofs.Standing.{statuses_are_exact}
-use Rattle.mu_command.specs.Readings.{ReadingIsExact}
-use Rattle.mu_command.proofs.Lines.{reading_is_exact}
-use Rattle.mu_command.proofs.Spacing.{spaced_reads}
+use Rattle.mu_command.specs.Lines.{ReadingIsExact}
+use Rattle.mu_command.proofs.Reading.{reading_is_exact}
+use Rattle.mu_command.proofs.Back.{commands_read_back}
 use Rattle.mu_flat.proofs.FirstCircle.{circles_are_exact}
 use Rattle.mu_print.proofs.ClaimsBack.{claims_read_back}
 use Rattle.mural.specs.Laws.{Laws}
@@ -11,4 +11,4 @@ use Rattle.mural.proofs.Acyclic.{reached_acyclic}
 
 pub laws_hold : Laws
 unfolding ReadingIsExact StatusesAreExact
-laws_hold = record { reading = reading_is_exact; canonical = spaced_reads; claims = claims_read_back; statuses = statuses_are_exact; circles = circles_are_exact; acyclic = reached_acyclic }
+laws_hold = record { reading = reading_is_exact; canonical = commands_read_back; claims = claims_read_back; statuses = statuses_are_exact; circles = circles_are_exact; acyclic = reached_acyclic }

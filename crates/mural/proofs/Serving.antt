@@ -9,7 +9,11 @@ use Rattle.std.proofs.lemmas.List.Folds.{list_any-append}
 use Rattle.std.specs.Io.KnownBytes.{append_known}
 use Rattle.mural.specs.Lines.{is_line_feed, whole_lines, unfinished, last_line, lines}
 use Rattle.mu_flat.specs.Entries.{Entries, initial}
-use Rattle.mural.specs.Answers.{Answer, no_command, longest_line, answer}
+use Rattle.mu_tree.specs.declared.refusal.Refusal.TheVariants.{LineTooLong}
+use Rattle.mu_grammar.specs.Lexemes.{items_of}
+use Rattle.mu_command.specs.Canonical.{longest_text}
+use Rattle.mu_command.specs.Lines.{line_read}
+use Rattle.mural.specs.Answers.{Answer, no_command, read_out, answer}
 use Rattle.mural.specs.Replies.{replies, entries_after, told_for, told_bytes, refuses, some_refused}
 use Rattle.mural.specs.Interpreter.{Served, IsFront, TellsFront, kept_length}
 use Rattle.mural.specs.declared.reply.Reply.{Reply}
@@ -27,16 +31,16 @@ entries_after-append entries (x ∷ xs) ys = entries_after-append (answer entrie
 told_bytes-append : (xs ys : List (Option Reply)) → told_bytes (xs ++ ys) ≡ told_bytes xs ++ told_bytes ys
 told_bytes-append = flat_map-append told_for
 
-too_long : (entries : Entries) (line : List ℕ) → longest_line < length line → answer entries line ≡ no_command entries 1
-unfolding answer
-too_long entries line lt = cond-true (nat_lt longest_line (length line)) (no_command entries 1) _ (lt-ltb longest_line (length line) lt)
+too_long : (entries : Entries) (line : List ℕ) → longest_text < length line → answer entries line ≡ no_command entries 1
+unfolding answer line_read
+too_long entries line lt = ap (read_out entries (items_of line)) (cond-true (nat_lt longest_text (length line)) (Err LineTooLong) _ (lt-ltb longest_text (length line) lt))
 
 -- a line that is too long is answered by its first bytes alone
 pub answer_kept : (entries : Entries) (line : List ℕ) → answer entries (take kept_length line) ≡ answer entries line
-answer_kept entries line = elim (leb_tells (length line) longest_line) [
+answer_kept entries line = elim (leb_tells (length line) longest_text) [
   | inl t ↦ ap (answer entries) (take_all kept_length line (omega (arith, t.1)))
   | inr f ↦
-      let long : longest_line < length (take kept_length line) = omega (arith, f.1, length-take-le kept_length line (omega (arith, f.1))) in
+      let long : longest_text < length (take kept_length line) = omega (arith, f.1, length-take-le kept_length line (omega (arith, f.1))) in
       too_long entries (take kept_length line) long ∙ sym (too_long entries line f.1)
 ]
 
@@ -67,13 +71,13 @@ front_longer start told xs ys is =
 pub front_all : (start told : Option (List ℕ)) (xs : List (List ℕ)) → told ≡ append_known start (told_bytes (replies initial xs)) → TellsFront start xs told
 front_all start told xs is = (told_bytes (replies initial xs), is, ([], append-nil (told_bytes (replies initial xs))))
 
-kept_short : (line : List ℕ) → length (take kept_length line) ≤ longest_line → length line ≤ longest_line
-kept_short line le = elim (leb_tells (length line) longest_line) [
+kept_short : (line : List ℕ) → length (take kept_length line) ≤ longest_text → length line ≤ longest_text
+kept_short line le = elim (leb_tells (length line) longest_text) [
   | inl t ↦ t.1
   | inr f ↦ absurd (omega (arith, f.1, le, length-take-le kept_length line (omega (arith, f.1))))
 ]
 
-kept_long : (line : List ℕ) → longest_line < length (take kept_length line) → kept_length ≤ length line
+kept_long : (line : List ℕ) → longest_text < length (take kept_length line) → kept_length ≤ length line
 kept_long line lt = elim (leb_tells kept_length (length line)) [
   | inl t ↦ t.1
   | inr f ↦ absurd (omega (arith, f.1, lt, ap length (take_all kept_length line (omega (arith, f.1)))))
@@ -158,15 +162,15 @@ module _ (start : Option (List ℕ)) (bytes : List ℕ) (entries : Entries) (lin
       }
 
   -- the line in hand has room for a byte, or is too long already
-  pub line_room : (byte : ℕ) → length line ≤ longest_line → line ++ byte ∷ [] ≡ take kept_length (unfinished bytes ++ byte ∷ [])
+  pub line_room : (byte : ℕ) → length line ≤ longest_text → line ++ byte ∷ [] ≡ take kept_length (unfinished bytes ++ byte ∷ [])
   line_room byte le =
-      let short : length (unfinished bytes) ≤ longest_line = kept_short (unfinished bytes) (subst (λ (l : List ℕ). length l ≤ longest_line) served.line_is le) in
+      let short : length (unfinished bytes) ≤ longest_text = kept_short (unfinished bytes) (subst (λ (l : List ℕ). length l ≤ longest_text) served.line_is le) in
       ap (λ (l : List ℕ). l ++ byte ∷ []) (served.line_is ∙ take_all kept_length (unfinished bytes) (omega (arith, short)))
       ∙ sym (take_all kept_length (unfinished bytes ++ byte ∷ []) (omega (arith, short, length-append (unfinished bytes) (byte ∷ []))))
 
-  pub line_full : (byte : ℕ) → longest_line < length line → line ≡ take kept_length (unfinished bytes ++ byte ∷ [])
+  pub line_full : (byte : ℕ) → longest_text < length line → line ≡ take kept_length (unfinished bytes ++ byte ∷ [])
   line_full byte lt =
-      let long : kept_length ≤ length (unfinished bytes) = kept_long (unfinished bytes) (subst (λ (l : List ℕ). longest_line < length l) served.line_is lt) in
+      let long : kept_length ≤ length (unfinished bytes) = kept_long (unfinished bytes) (subst (λ (l : List ℕ). longest_text < length l) served.line_is lt) in
       served.line_is ∙ sym (take-append-le kept_length (unfinished bytes) (byte ∷ []) long)
 
   -- nothing more comes

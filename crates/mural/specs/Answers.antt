@@ -1,11 +1,10 @@
 -- The answer to one line: its command carried out on a store, and the reply.
-use Rattle.std.specs.Prelude.{ℕ, Bool, true, false, ◌||◌, ◌&&◌, ◌==◌, nat_lt, if◌then◌else◌, List, [], ◌∷◌, length, Option, Some, None, codes}
+use Rattle.std.specs.Prelude.{ℕ, Bool, true, false, ◌||◌, ◌&&◌, if◌then◌else◌, List, Option, Some, None, Result, Ok, Err, codes}
 use Rattle.std.specs.Option.{option_map, option_map_or}
 use Rattle.std.specs.FinMap as finite
 use Rattle.mu_tree.specs.declared.refusal.Refusal.{Refusal}
-use Rattle.mu_tree.specs.declared.refusal.Refusal.TheVariants.{Syntax, Limit, Unknown}
+use Rattle.mu_tree.specs.declared.refusal.Refusal.TheVariants.{LineTooLong, Syntax, Limit, Unknown}
 use Rattle.mu_tree.specs.declared.refusal.LimitWord.{LimitWord}
-use Rattle.mu_grammar.specs.Reading.{is_blank}
 use Rattle.mu_grammar.specs.Lexemes.{Lexeme, after_first, items_of}
 use Rattle.mu_grammar.specs.Parts.{first_as, starts}
 use Rattle.mu_grammar.specs.SimpleParts.{is_word, name_of}
@@ -15,10 +14,8 @@ use Rattle.mu_flat.specs.Entries.{Entries}
 use Rattle.mu_flat.specs.ProofTables.{proof_at}
 use Rattle.mu_status.specs.Statuses.{status_of}
 use Rattle.mu_command.specs.declared.command.Command.{Command}
-use Rattle.mu_command.specs.declared.command.Command.TheVariants.{Theory, Const, Axiom, Rule, Status, ShowRule, ShowProof}
-use Rattle.mu_command.specs.declared.readings.Reading.{Reading}
-use Rattle.mu_command.specs.declared.readings.Reading.TheVariants as reading
-use Rattle.mu_command.specs.Readings.{reading_of}
+use Rattle.mu_command.specs.declared.command.Command.TheVariants.{Theory, Const, Axiom, Rule, Proof, Line, Box, Cite, Status, ShowRule, ShowProof}
+use Rattle.mu_command.specs.Lines.{line_read}
 use Rattle.mu_edit.specs.Changes.{refusal, changed}
 use Rattle.mural.specs.Pages.{proof_page, rule_page, status_page}
 use Rattle.mural.specs.declared.reply.Reply.{Reply}
@@ -83,14 +80,24 @@ touches_base (Axiom unit rule claim) = is_base unit
 touches_base (Rule unit rule claim) = is_base unit
 touches_base _ = false
 
--- a line of blanks, or whose first other byte is `#`, has no reply
-abbrev pub is_quiet : List ℕ → Bool
-is_quiet [] = true
-is_quiet (byte ∷ bytes) = if is_blank byte then is_quiet bytes else byte == 35
+-- the command is of a form that is carried out
+abbrev pub is_carried_out : Command → Bool
+is_carried_out (Theory unit) = true
+is_carried_out (Const unit name shape result) = true
+is_carried_out (Axiom unit rule claim) = true
+is_carried_out (Rule unit rule claim) = true
+is_carried_out (Proof rule proof) = true
+is_carried_out (Line rule proof label block before tree) = true
+is_carried_out (Box rule proof label block before vars assumptions) = true
+is_carried_out (Cite rule proof label why) = true
+is_carried_out (Status rule) = true
+is_carried_out (ShowRule rule) = true
+is_carried_out (ShowProof rule proof) = true
+is_carried_out _ = false
 
--- the most bytes that a line may have
-abbrev pub longest_line : ℕ
-longest_line = 65536
+-- the command is refused whatever the store holds
+abbrev pub is_barred : Command → Bool
+is_barred command = touches_base command || (if is_carried_out command then false else true)
 
 -- what a line leads to: no reply where it is quiet
 pub record Answer : Type 0 where
@@ -105,9 +112,9 @@ no_command entries column = record { entries = entries; reply = Some (Refused (S
 abbrev pub answered : Outcome → Answer
 answered outcome = record { entries = outcome.entries; reply = Some outcome.reply }
 
--- No command declares the base theory or changes it.
+-- No command declares the base theory or changes it, and not every form is carried out.
 abbrev pub carry_out : Entries → Command → Answer
-carry_out entries command = if touches_base command then no_command entries 1 else answered (step entries command)
+carry_out entries command = if is_barred command then no_command entries 1 else answered (step entries command)
 
 -- the first token is the word of a form that declares something in a theory, which follows
 abbrev pub declares : List Lexeme → Bool
@@ -127,13 +134,13 @@ abbrev pub past_limit : Entries → List Lexeme → LimitWord → Answer
 past_limit entries ts word = if begins_in_base ts then no_command entries 1 else record { entries = entries; reply = Some (Refused (Limit word)) }
 
 -- the answer to a line that is read so
-abbrev pub read_out : Entries → List Lexeme → Reading → Answer
-read_out entries ts (reading.Command command) = carry_out entries command
-read_out entries ts (reading.Limit word) = past_limit entries ts word
-read_out entries ts (reading.Refused column) = no_command entries column
+abbrev pub read_out : Entries → List Lexeme → Result (Option Command) Refusal → Answer
+read_out entries ts (Ok None) = record { entries = entries; reply = None }
+read_out entries ts (Ok (Some command)) = carry_out entries command
+read_out entries ts (Err LineTooLong) = no_command entries 1
+read_out entries ts (Err (Limit word)) = past_limit entries ts word
+read_out entries ts (Err refused) = record { entries = entries; reply = Some (Refused refused) }
 
 -- the answer to a line
 unfoldable pub answer : Entries → List ℕ → Answer
-answer entries line =
-    if nat_lt longest_line (length line) then no_command entries 1
-    else (if is_quiet line then record { entries = entries; reply = None } else read_out entries (items_of line) (reading_of line))
+answer entries line = read_out entries (items_of line) (line_read line)

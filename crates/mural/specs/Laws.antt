@@ -5,10 +5,8 @@ use Rattle.mu_flat.specs.ProofTables.{leads}
 use Rattle.mu_flat.specs.Entries.{initial}
 use Rattle.mu_flat.specs.Circles.{CirclesAreExact}
 use Rattle.mu_status.specs.Statuses.{AreStatuses}
-use Rattle.mu_grammar.specs.Spacing.{spaced}
-use Rattle.mu_command.specs.declared.command.Command.{Command}
-use Rattle.mu_command.specs.declared.readings.Reading.TheVariants as line_reading
-use Rattle.mu_command.specs.Readings.{IsRead, reading_of}
+use Rattle.mu_command.specs.Language.{CommandsReadBack}
+use Rattle.mu_command.specs.Lines.{IsRead}
 use Rattle.mu_print.specs.Laws.{ClaimsReadBack}
 use Rattle.mural.specs.Replies.{entries_after}
 
@@ -16,8 +14,8 @@ use Rattle.mural.specs.Replies.{entries_after}
 pub record Laws : Type 0 where
   -- a line is read as what its tokens say: one command, or the first column from which it is none
   pub reading : (line : List ℕ) → IsRead line
-  -- the tokens of a command, with one blank between each two, are the same command
-  pub canonical : (line : List ℕ) (command : Command) → reading_of line ≡ line_reading.Command command → reading_of (spaced line) ≡ line_reading.Command command
+  -- the canonical text of a command reads as that command
+  pub canonical : CommandsReadBack
   -- each claim that some text reads as is what its canonical text, which pages tell, reads as
   pub claims : ClaimsReadBack
   -- the status that is told of a rule is the one that fits, and what is established rests on axioms alone

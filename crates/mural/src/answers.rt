@@ -1,17 +1,17 @@
-ghost use Rattle.std.specs.Prelude.{◌≡◌, false, Some, IfOk, OnErr};
+ghost use Rattle.std.specs.Prelude.{◌≡◌, false, Some, Err, IfOk, OnErr};
 ghost use Rattle.std.specs.Option.{option_map};
-ghost use Rattle.mu_command.specs.Plain.{HasPlainNames};
+ghost use Rattle.mu_command.specs.Language.{IsCommand};
 ghost use Rattle.mu_flat.specs.Entries.{Entries};
 ghost use Rattle.mu_grammar.specs.Lexemes.{items, items_of};
 ghost use Rattle.mu_edit.specs.Changes.{refusal};
 ghost use Rattle.mu_status.specs.Statuses.{status_of};
-ghost use Rattle.mural.specs.Answers.{answer, begins_in_base, carry_out, declares as declaring_test, is_quiet as quiet_test, names_base_constant as base_name_test, outcome, page, past_limit, queried, reply_to, rule_pages, touches_base as base_test};
+ghost use Rattle.mural.specs.Answers.{answer, begins_in_base, carry_out, declares as declaring_test, is_barred as bar_test, is_carried_out as form_test, names_base_constant as base_name_test, outcome, page, past_limit, queried, read_out, reply_to, rule_pages, touches_base as base_test};
 ghost use Rattle.mural.specs.Pages.{proof_page};
 ghost use Rattle.mu_flat.specs.ProofTables.{proof_at};
 
 use crate::pages::{proof_page, rule_page, status_page};
 use crate::reply::Reply;
-use mu_command::{Command, Reading, read};
+use mu_command::{Command, LineFault, read_line};
 use mu_decl::{Context, Statement};
 use mu_edit::apply;
 use mu_flat::{EditFault, Store, is_base, is_base_constant};
@@ -19,12 +19,9 @@ use mu_grammar::Token;
 use mu_status::{RuleStatus, status};
 use mu_tables::Work;
 use mu_text::parts::{name_bytes, sees_word};
-use mu_text::{Reader, Tokens, is_blank};
+use mu_text::{Reader, Tokens};
 use mu_tree::{Bytes, LimitWord, Name, NoMemory, Refusal};
 use std::alloc::Global;
-
-/// The most bytes that a line may have.
-pub(crate) const LONGEST_LINE: usize = 65536;
 
 /// Answers a line: with no reply where it is blank or a comment, and else by carrying out its command.
 ///
@@ -40,16 +37,26 @@ pub(crate) fn answer_line(
     ensures ok { IfOk result (λ reply. answer store.old line.now ≡ record { entries = store.new; reply = reply }) }
     ensures err { OnErr result (store.new ≡ store.old) }
 {
-    if line.len() > LONGEST_LINE {
-        return Ok(Some(no_command(1)));
+    match read_line(alloc, line) {
+        Ok(None) => Ok(None),
+        Ok(Some(command)) => Ok(Some(carry_out(alloc, store, command)?)),
+        Err(LineFault::Refused(refused)) => Ok(Some(no_line(alloc, line, refused)?)),
+        Err(LineFault::NoMemory) => Err(NoMemory),
     }
-    if is_quiet(line) {
-        return Ok(None);
-    }
-    match read(alloc, line)? {
-        Reading::Command(command) => Ok(Some(carry_out(alloc, store, command)?)),
-        Reading::Limit(word) => Ok(Some(past_limit(alloc, line, word)?)),
-        Reading::Refused(column) => Ok(Some(no_command(column))),
+}
+
+/// The reply to a line that is refused as it is read.
+///
+/// # Errors
+///
+/// `NoMemory`.
+fn no_line(alloc: Global, line: &[u8], refused: Refusal) -> Result<Reply, NoMemory>
+    ensures { IfOk result (λ reply. (entries : Entries) → read_out entries (items_of line.now) (Err refused) ≡ record { entries = entries; reply = Some reply }) }
+{
+    match refused {
+        Refusal::LineTooLong => Ok(no_command(1)),
+        Refusal::Limit(word) => past_limit(alloc, line, word),
+        _ => Ok(Reply::Refused(refused)),
     }
 }
 
@@ -112,18 +119,6 @@ fn names_base_constant(reader: &Reader) -> bool
     }
 }
 
-/// Whether the line is blanks, or its first other byte is `#`.
-fn is_quiet(line: &[u8]) -> bool
-    ensures { result ≡ quiet_test line.now }
-{
-    for byte in line {
-        if !is_blank(*byte) {
-            return *byte == b'#';
-        }
-    }
-    true
-}
-
 /// Carries out a command: a change of the store, or a query.
 ///
 /// # Errors
@@ -131,11 +126,11 @@ fn is_quiet(line: &[u8]) -> bool
 /// `NoMemory` leaves the store as it was.
 #[tactic(auto, unfolding(crate::specs::Answers::step))]
 fn carry_out(alloc: Global, store: &mut Store, command: Command) -> Result<Reply, NoMemory>
-    requires { HasPlainNames command }
+    requires { IsCommand command }
     ensures ok { IfOk result (λ reply. carry_out store.old command ≡ record { entries = store.new; reply = Some reply }) }
     ensures err { OnErr result (store.new ≡ store.old) }
 {
-    if touches_base(&command) {
+    if is_barred(&command) {
         discard(command);
         return Ok(no_command(1));
     }
@@ -178,8 +173,8 @@ fn query(alloc: Global, store: &Store, command: &Command) -> Result<Option<Reply
 ///
 /// `NoMemory` leaves the store as it was.
 fn change_store(alloc: Global, store: &mut Store, command: Command) -> Result<Reply, NoMemory>
-    requires plain { HasPlainNames command }
-    requires other { base_test command ≡ false }
+    requires language { IsCommand command }
+    requires free { bar_test command ≡ false }
     ensures ok { IfOk result (λ reply. outcome store.old command (refusal store.old command) ≡ record { entries = store.new; reply = reply }) }
     ensures err { OnErr result (store.new ≡ store.old) }
 {
@@ -187,6 +182,33 @@ fn change_store(alloc: Global, store: &mut Store, command: Command) -> Result<Re
         Ok(()) => Ok(Reply::Accepted),
         Err(EditFault::Refused(refused)) => Ok(Reply::Refused(refused)),
         Err(EditFault::NoMemory) => Err(NoMemory),
+    }
+}
+
+/// Whether the command is refused whatever the store holds.
+fn is_barred(command: &Command) -> bool
+    ensures { result ≡ bar_test command.now }
+{
+    touches_base(command) || !is_carried_out(command)
+}
+
+/// Whether the command is of a form that is carried out.
+fn is_carried_out(command: &Command) -> bool
+    ensures { result ≡ form_test command.now }
+{
+    match command {
+        Command::Theory(_)
+        | Command::Const(_, _, _, _)
+        | Command::Axiom(_, _, _)
+        | Command::Rule(_, _, _)
+        | Command::Proof(_, _)
+        | Command::Line(_, _, _, _, _, _)
+        | Command::Box(_, _, _, _, _, _, _)
+        | Command::Cite(_, _, _, _)
+        | Command::Status(_)
+        | Command::ShowRule(_)
+        | Command::ShowProof(_, _) => true,
+        _ => false,
     }
 }
 

@@ -7,9 +7,10 @@ ghost use Rattle.mural.specs.Answers.{answer};
 ghost use Rattle.mural.specs.Replies.{replies, told_for, refuses, some_refused, told_bytes};
 ghost use Rattle.mural.specs.Interpreter.{IsFresh, Served, TellsFront};
 
-use crate::answers::{LONGEST_LINE, answer_line};
+use crate::answers::answer_line;
 use crate::telling::tell_all;
 use crate::wording::{is_refusal, reply_text};
+use mu_command::LONGEST_LINE;
 use mu_flat::Store;
 use mu_outside::{Failed, Outside};
 use mu_tree::NoMemory;

@@ -1,5 +1,5 @@
 use Rattle.std.proofs.Common.{length}
-use Rattle.mu_command.proofs.rows.+read_row.Given as goal
+use Rattle.mu_command.proofs.fields.+read_row.Given as goal
 
 abbrev pub decreases-read_row : goal.decreases-read_row
 decreases-read_row l = length l.row.now

@@ -1,5 +1,5 @@
 use Rattle.std.proofs.Common.{length}
-use Rattle.mu_command.proofs.canonical.+add_row.Given as goal
+use Rattle.mu_command.proofs.printing.+add_row.Given as goal
 
 abbrev pub decreases-add_row : goal.decreases-add_row
 decreases-add_row l = length l.row.now

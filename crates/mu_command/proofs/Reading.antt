@@ -1,16 +1,13 @@
 -- What reading a line says of it.
-use Rattle.std.proofs.Common.{◌≡◌, ℕ, ◌-◌, Bool, true, false, List, [], ◌∷◌, length, refl, ap, sym, ◌∙◌, arith}
-use Rattle.std.specs.Prelude.{if◌then◌else◌, Option, Some, None, Ok, Result, Err, IfOk}
+use Rattle.std.proofs.Common.{◌≡◌, ℕ, ◌-◌, Bool, true, false, List, [], ◌∷◌, length, refl, ap, sym, ◌∙◌, subst, arith}
+use Rattle.std.specs.Prelude.{if◌then◌else◌, Option, Some, None, Ok}
 use Rattle.std.proofs.lemmas.List.{length-map}
 use Rattle.mu_tree.specs.declared.refusal.LimitWord.{LimitWord}
 use Rattle.mu_tree.specs.declared.refusal.LimitWord.TheVariants as limit
-use Rattle.mu_tree.specs.declared.memory.NoMemory.{NoMemory}
 use Rattle.mu_grammar.specs.Tokens.{tokens}
 use Rattle.mu_grammar.specs.Lexemes.{Lexeme, item, items_of}
 use Rattle.mu_grammar.specs.Parts.{Out, found, stopped}
 use Rattle.mu_text.proofs.Whole.{reads_exactly, only_value}
-use Rattle.mu_command.specs.declared.readings.Reading.{Reading}
-use Rattle.mu_command.specs.declared.readings.Reading.TheVariants as reading
 use Rattle.mu_grammar.specs.declared.excess.Excess.{Excess}
 use Rattle.mu_grammar.specs.Excesses.{excess_of, no_excess}
 use Rattle.mu_text.proofs.Excesses.{same_excess, raised-none}
@@ -18,7 +15,8 @@ use Rattle.mu_command.specs.declared.command.Command.{Command}
 use Rattle.mu_command.specs.Grammar.{Written, Spells, GivesCommand, command_of, trees_of_command, read_command}
 use Rattle.mu_grammar.specs.Texts.{has_short_tokens, column}
 use Rattle.mu_text.proofs.Lines.{line_kept}
-use Rattle.mu_command.specs.Readings.{IsRead, ReadingIsExact, Says, first_limit, limit_of, or_text, within_limits, read_as, reading_of}
+use Rattle.mu_command.specs.Language.{IsCommand}
+use Rattle.mu_command.specs.Lines.{IsRead, ReadingIsExact, Says, first_limit, limit_of, or_text, within_limits, read_as, reading_of}
 use Rattle.mu_command.specs.Canonical.{is_long}
 use Rattle.mu_command.proofs.Exact.{Exact-command}
 use Rattle.mu_command.proofs.Meant.{command_meant}
@@ -61,17 +59,30 @@ pub reading_is_exact : ReadingIsExact
 unfolding ReadingIsExact
 reading_is_exact = is_read
 
+no_limit : (passed : Option LimitWord) (long : Bool) → or_text passed long ≡ None → passed ≡ None
+no_limit None long e = refl
+no_limit (Some word) long e = cc
+
+-- a command that a line reads as is of the language
+pub read_of_language : (line : List ℕ) (c : Command) → reading_of line ≡ Ok c → IsCommand c
+read_of_language line c e = says_language (subst (Says line) e (is_read line).says)
+  where
+    says_language : Says line (Ok c) → IsCommand c
+    says_language (w, spells, none, same) =
+        let within = none_past (has_short_tokens line) (excess_of (trees_of_command w)) (no_limit (first_limit (has_short_tokens line) (excess_of (trees_of_command w))) (is_long (command_of w)) none) in
+        (line, (w, spells, within.0, within.1, same))
+
 none_left : (rest : List Lexeme) → length rest ≡ 0 → rest ≡ []
 none_left [] e = refl
 none_left (T ∷ rest) e = absurd (omega arith)
 
--- what the code answers of a command that is read to the end is what the line reads as
-pub read_value : (line : List ℕ) (c : Command) (e : Excess) (rest : List Lexeme) (answer : Reading) → GivesCommand no_excess e (items_of line) (Ok c) rest → length rest ≡ 0
-    → answer ≡ within_limits (or_text (first_limit (has_short_tokens line) e) (is_long c)) c → answer ≡ reading_of line
+-- what is answered of a command that is read to the end is what the line reads as
+pub read_value : (line : List ℕ) (c : Command) (e : Excess) (rest : List Lexeme) → GivesCommand no_excess e (items_of line) (Ok c) rest → length rest ≡ 0
+    → within_limits (or_text (first_limit (has_short_tokens line) e) (is_long c)) c ≡ reading_of line
 unfolding reading_of
-read_value line c e rest answer read none is =
-    is ∙ (ap (λ x. within_limits (or_text (first_limit (has_short_tokens line) x) (is_long c)) c) (read.stands.1 ∙ raised-none (trees_of_command read.value))
-    ∙ (by_limit (first_limit (has_short_tokens line) (excess_of (trees_of_command read.value))) refl ∙ sym (ap (read_as line) whole)))
+read_value line c e rest read none =
+    ap (λ x. within_limits (or_text (first_limit (has_short_tokens line) x) (is_long c)) c) (read.stands.1 ∙ raised-none (trees_of_command read.value))
+    ∙ (by_limit (first_limit (has_short_tokens line) (excess_of (trees_of_command read.value))) refl ∙ sym (ap (read_as line) whole))
   where
     whole : read_command (items_of line) ≡ found read.value []
     whole = read.is ∙ ap (λ r. found read.value r) (none_left rest none)
@@ -85,9 +96,3 @@ read_value line c e rest answer read none is =
         let within = none_past (has_short_tokens line) (excess_of (trees_of_command read.value)) i in
         ap (λ x. within_limits (or_text None (is_long x)) x) (command_meant read.value (items_of line) c spells (line_kept line within.0) read.stands.0 within.1)
     by_limit (Some word) i = refl
-
--- the same of an answer that may be want of memory
-pub read_within : (line : List ℕ) (c : Command) (e : Excess) (rest : List Lexeme) (answer : Result Reading NoMemory) → GivesCommand no_excess e (items_of line) (Ok c) rest → length rest ≡ 0
-    → IfOk answer (λ reading. reading ≡ within_limits (or_text (first_limit (has_short_tokens line) e) (is_long c)) c) → IfOk answer (λ reading. reading ≡ reading_of line)
-read_within line c e rest (Ok reading) read none is = read_value line c e rest reading read none is
-read_within line c e rest (Err fault) read none is = tt

@@ -1,6 +1,6 @@
 use Rattle.std.proofs.Common.{◌≡◌, drop}
-use Rattle.mural.specs.Answers.{is_quiet}
-use Rattle.mural.proofs.answers.is_quiet.Given as goal
+use Rattle.mu_command.specs.Lines.{is_quiet}
+use Rattle.mu_command.proofs.lines.is_quiet.Given as goal
 
 abbrev pub invariant-loop-byte : goal.invariant-loop-byte
 invariant-loop-byte l = is_quiet (drop l.byte-index l.line) ≡ is_quiet l.line

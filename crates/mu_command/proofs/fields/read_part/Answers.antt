@@ -1,6 +1,6 @@
 use Rattle.std.proofs.Common.{◌≡◌, ℕ, List, rules, refl, subst, Some, Err}
 use Rattle.mu_grammar.specs.Groups.{StandsOptional}
-use Rattle.mu_grammar.specs.Parts.{Gives, Read, Same}
+use Rattle.mu_grammar.specs.Parts.{Gives, Read, Same, StandsEach}
 use Rattle.mu_grammar.specs.SimpleParts.{StandsName, read_word}
 use Rattle.mu_grammar.specs.Declarations.{StandsDeclaration}
 use Rattle.mu_grammar.specs.Excesses.{Raising, StandsTree, one_tree}
@@ -10,7 +10,7 @@ use Rattle.mu_grammar.specs.Blocks.{StandsBlock, trees_in_block}
 use Rattle.mu_command.specs.declared.parts.Part.TheVariants as part
 use Rattle.mu_command.specs.declared.parts.Field.TheVariants as field
 use Rattle.mu_command.proofs.FormLemmas.{mute, part_stops, raising, silent}
-use Rattle.mu_command.proofs.rows.read_part.Goals as goal
+use Rattle.mu_command.proofs.fields.read_part.Goals as goal
 
 pub returns-in_err-name-in-Name : goal.returns-in_err-name-in-Name
 returns-in_err-name-in-Name c =
@@ -36,6 +36,11 @@ pub returns-in_err-declaration-in-Declaration : goal.returns-in_err-declaration-
 returns-in_err-declaration-in-Declaration c =
     let is : c.from_residual-in_err-declaration-in-Declaration.result ≡ Err c.in_err-declaration-in-Declaration.field-0.0 = search rules in
     rw (c.in-Declaration.is, is) (part_stops part.Declaration StandsDeclaration c.args.excess.now c.args.excess.now _ _ _ c.in_err-declaration-in-Declaration.ensures)
+
+pub returns-in_err-formals-in-Formals : goal.returns-in_err-formals-in-Formals
+returns-in_err-formals-in-Formals c =
+    let is : c.from_residual-in_err-formals-in-Formals.result ≡ Err c.in_err-formals-in-Formals.field-0.0 = search rules in
+    rw (c.in-Formals.is, is) (part_stops part.Formals (StandsEach StandsName) c.args.excess.now c.args.excess.now _ _ _ c.in_err-formals-in-Formals.ensures)
 
 pub returns-in_err-read_before-in-Before : goal.returns-in_err-read_before-in-Before
 returns-in_err-read_before-in-Before c =
@@ -65,6 +70,9 @@ returns-in_ok-plain_name-in-Plain c = rw c.in-Plain.is (silent part.Plain (λ x.
 
 pub returns-in_ok-declaration-in-Declaration : goal.returns-in_ok-declaration-in-Declaration
 returns-in_ok-declaration-in-Declaration c = rw c.in-Declaration.is (silent part.Declaration (λ x. Some (field.Declaration x)) (λ v. refl) c.args.excess.now _ _ _ c.in_ok-declaration-in-Declaration.ensures)
+
+pub returns-in_ok-formals-in-Formals : goal.returns-in_ok-formals-in-Formals
+returns-in_ok-formals-in-Formals c = rw c.in-Formals.is (silent part.Formals (λ x. Some (field.Formals x)) (λ v. refl) c.args.excess.now _ _ _ c.in_ok-formals-in-Formals.ensures)
 
 pub returns-in_ok-read_before-in-Before : goal.returns-in_ok-read_before-in-Before
 returns-in_ok-read_before-in-Before c = rw c.in-Before.is (silent part.Before (λ x. Some (field.Before x)) (λ v. refl) c.args.excess.now _ _ _ c.in_ok-read_before-in-Before.ensures)

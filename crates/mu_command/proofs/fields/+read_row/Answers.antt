@@ -1,10 +1,9 @@
-use Rattle.std.proofs.Common.{◌≡◌, List, [], length, rules, subst, sym}
-use Rattle.std.specs.Prelude.{◌-◌, Ok, Err, drop, take, slice_index_or}
+use Rattle.std.proofs.Common.{◌≡◌, List, [], rules, subst, sym}
+use Rattle.std.specs.Prelude.{Ok, Err}
 use Rattle.mu_command.specs.declared.parts.Part.{Part}
-use Rattle.mu_command.specs.declared.parts.Part.TheVariants as part
 use Rattle.mu_command.specs.Grammar.{GivesRow}
 use Rattle.mu_command.proofs.FormLemmas.{empty_row, row_ends, row_goes_on, row_stops_at_first, row_stops_behind, split_row}
-use Rattle.mu_command.proofs.rows.+read_row.Goals as goal
+use Rattle.mu_command.proofs.fields.+read_row.Goals as goal
 
 pub returns-in_err-first-in-len1-up : goal.returns-in_err-first-in-len1-up
 returns-in_err-first-in-len1-up n c =
