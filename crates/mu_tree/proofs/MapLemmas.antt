@@ -1,5 +1,5 @@
 -- Finite maps by name, one name at a time.
-use Rattle.std.proofs.Common.{◌≡◌, ◌⊎◌, inl, inr, sym, ap, subst, ◌∙◌, ℕ, true, false, cond, List, Some}
+use Rattle.std.proofs.Common.{◌≡◌, ◌⊎◌, inl, inr, sym, ap, subst, ◌∙◌, ℕ, true, false, cond, List, Some, None}
 use Rattle.std.specs.Prelude.{is_some}
 use Rattle.std.specs.Ordering.{nat_cmp, eq_by_cmp, is_eq}
 use Rattle.std.specs.Cmp.{tied_itself}
@@ -61,4 +61,44 @@ pub insert_got : {V : Type 0} (m : MapOf V) (k : List ℕ) (v : V) → map.get m
 insert_got m k v got = map.same_map nat_list_cmp_total exact_bytes _ _ (λ q. elim (same_name k q) [
   | inl e ↦ ap (map.get (map.insert m k v)) (sym e) ∙ get-insert_here m k v ∙ sym got ∙ ap (map.get m) e
   | inr n ↦ get-insert_other m k v q n
+])
+
+module _ {V : Type 0} (m : MapOf V) (k : List ℕ) where
+  -- a name that is taken out is not there
+  pub get-remove_here : map.get (map.remove m k) k ≡ None
+  get-remove_here = map.get-remove nat_list_cmp_total m k k ∙ ap (λ b. cond b None (map.get m k)) (itself k)
+
+  -- every other name stays
+  pub get-remove_other : (q : List ℕ) → (k ≡ q → ⊥) → map.get (map.remove m k) q ≡ map.get m q
+  get-remove_other q n = map.get-remove nat_list_cmp_total m k q ∙ ap (λ b. cond b None (map.get m q)) (apart q k (λ e. n (sym e)))
+
+  -- what is there afterwards was there, at another name
+  pub left_by : (q : List ℕ) (w : V) → map.get (map.remove m k) q ≡ Some w → (k ≡ q → ⊥) × (map.get m q ≡ Some w)
+  left_by q w is = elim (same_name k q) [
+    | inl e ↦ absurd (some_none (sym is ∙ ap (map.get (map.remove m k)) (sym e) ∙ get-remove_here))
+    | inr n ↦ (n, sym (get-remove_other q n) ∙ is)
+  ]
+    where
+      some_none : {A : Type 0} {x : A} → Some x ≡ None → ⊥
+      some_none e = false≢true (sym (ap is_some e))
+
+  -- to take out what is not there changes nothing
+  pub remove_absent : map.get m k ≡ None → map.remove m k ≡ m
+  remove_absent none = map.same_map nat_list_cmp_total exact_bytes _ _ (λ q. elim (same_name k q) [
+    | inl e ↦ ap (map.get (map.remove m k)) (sym e) ∙ get-remove_here ∙ sym none ∙ ap (map.get m) e
+    | inr n ↦ get-remove_other q n
+  ])
+
+-- to take a name out after its value is set is to take it out
+pub remove_inserted : {V : Type 0} (m : MapOf V) (k : List ℕ) (v : V) → map.remove (map.insert m k v) k ≡ map.remove m k
+remove_inserted m k v = map.same_map nat_list_cmp_total exact_bytes _ _ (λ q. elim (same_name k q) [
+  | inl e ↦ ap (map.get (map.remove (map.insert m k v) k)) (sym e) ∙ get-remove_here (map.insert m k v) k ∙ sym (get-remove_here m k) ∙ ap (map.get (map.remove m k)) e
+  | inr n ↦ get-remove_other (map.insert m k v) k q n ∙ get-insert_other m k v q n ∙ sym (get-remove_other m k q n)
+])
+
+-- to set the value of a name after the name is taken out is to set it
+pub insert_removed : {V : Type 0} (m : MapOf V) (k : List ℕ) (v : V) → map.insert (map.remove m k) k v ≡ map.insert m k v
+insert_removed m k v = map.same_map nat_list_cmp_total exact_bytes _ _ (λ q. elim (same_name k q) [
+  | inl e ↦ ap (map.get (map.insert (map.remove m k) k v)) (sym e) ∙ get-insert_here (map.remove m k) k v ∙ sym (get-insert_here m k v) ∙ ap (map.get (map.insert m k v)) e
+  | inr n ↦ get-insert_other (map.remove m k) k v q n ∙ get-remove_other m k q n ∙ sym (get-insert_other m k v q n)
 ])

@@ -11,7 +11,7 @@ use Rattle.std.specs.List.{AllByRecursion}
 use Rattle.std.specs.List.Sorted.{IsStrictlySortedBy}
 use Rattle.std.proofs.lemmas.Map.Lookups.{exact_bytes}
 use Rattle.std.specs.FinMap.Entries.{by_order, put}
-use Rattle.std.specs.FinMap.{entries, entries-insert, len-entries, len-empty, empty, get, insert, remove, find, from_entries, same_map, get-from_entries, get-insert, get-remove}
+use Rattle.std.specs.FinMap.{len, entries, entries-insert, len-entries, len-empty, empty, get, insert, remove, find, from_entries, same_map, get-from_entries, get-insert, get-remove}
 
 find_name : {V : Type 0} (es : List (List ℕ × V)) (q : List ℕ) → find (slice_cmp nat_cmp) q es ≡ lookup (is_at (slice_cmp nat_cmp q)) es
 find_name [] q = refl
@@ -58,3 +58,7 @@ entries_in_order (e ∷ es) h =
 -- the keys in the order of the map
 pub names_in_order : {V : Type 0} (m : BTreeMap (List ℕ) V) → IsStrictlySortedBy (slice_cmp nat_cmp) (keys m) → map (λ e. e.0) (entries (from_entries {R = slice_cmp nat_cmp} m.entries)) ≡ keys m
 names_in_order m h = ap (map (λ e. e.0)) (entries_in_order m.entries h)
+
+-- a map has as many names as the entries that it is made of
+pub len_in_order : {V : Type 0} (es : List (List ℕ × V)) → IsStrictlySortedBy (slice_cmp nat_cmp) (keys_of es) → length es ≡ len (from_entries {R = slice_cmp nat_cmp} es)
+len_in_order es h = sym (len-entries (from_entries es) ∙ ap length (entries_in_order es h))

@@ -1,4 +1,4 @@
-ghost use Rattle.std.specs.Prelude.{◌≡◌, map, true, false, IfOk, OnOk, OnErr};
+ghost use Rattle.std.specs.Prelude.{◌≡◌, ◌↔◌, map, true, false, IsTrue, IfOk, OnOk, OnErr};
 ghost use Rattle.std.specs.Borrow.{sem};
 ghost use Rattle.std.specs.Option.{option_copied, option_copied_mut, unwrap_or};
 ghost use Rattle.mu_tree.specs.Lending.{LendsValue};
@@ -54,6 +54,20 @@ impl<V> Table<V> {
         ensures { result ≡ finite.contains_key self.now name.now }
     {
         self.get(name).is_some()
+    }
+
+    /// The number of names with a value.
+    pub fn len(&self) -> usize
+        ensures { result ≡ finite.len self.now }
+    {
+        self.entries.len()
+    }
+
+    /// Whether no name has a value.
+    pub fn is_empty(&self) -> bool
+        ensures { IsTrue result ↔ (self.now ≡ finite.empty) }
+    {
+        self.len() == 0
     }
 
     /// The names of the map, in byte order.
@@ -125,6 +139,14 @@ impl<V: Drop> Table<V> {
             Err(_) => Err(NoMemory),
         }
     }
+
+    /// Takes a name out of the map and gives the value that it had, none exactly where the map has no such name.
+    pub fn take(&mut self, name: &Name) -> Option<V>
+        ensures value { result ≡ finite.get self.old name.now }
+        ensures taken { self.new ≡ finite.remove self.old name.now }
+    {
+        self.entries.remove(name)
+    }
 }
 
 /// A set of names.
@@ -173,6 +195,28 @@ impl NameSet {
         ensures { IfOk result (λ names. names ≡ finite.keys self.now) }
     {
         self.marks.names(alloc)
+    }
+
+    /// The number of names in the set.
+    pub fn len(&self) -> usize
+        ensures { result ≡ finite.len self.now }
+    {
+        self.marks.len()
+    }
+
+    /// Whether no name is in the set.
+    pub fn is_empty(&self) -> bool
+        ensures { IsTrue result ↔ (self.now ≡ finite.empty) }
+    {
+        self.marks.is_empty()
+    }
+
+    /// Takes a name out of the set, and says whether it was there.
+    pub fn take(&mut self, name: &Name) -> bool
+        ensures found { result ≡ finite.contains_key self.old name.now }
+        ensures taken { self.new ≡ finite.remove self.old name.now }
+    {
+        self.marks.take(name).is_some()
     }
 
     /// Adds a name.
