@@ -6,9 +6,13 @@ use Rattle.std.specs.Cmp.Lexicographic.{slice_cmp}
 use Rattle.std.specs.Option.{option_map_or}
 use Rattle.std.specs.FinMap as map
 use Rattle.std.specs.FinMap.Entries.{find}
-use Rattle.mu_tree.specs.Maps.{MapOf}
+use Rattle.mu_tree.specs.Maps.{MapOf, NamesOf}
 use Rattle.mu_graph.specs.Derivations.{Stands}
 use Rattle.mu_graph.specs.Members.{stands_front, stands_back}
+
+-- the names of a set, in byte order
+abbrev pub members : NamesOf → List (List ℕ)
+members names = map.keys names
 
 -- the keys that a name leads to: by `links` those of its value, and none where the map has no such name
 abbrev pub led_by : {V K : Type 0} → (V → List K) → MapOf V → List ℕ → List K

@@ -1,10 +1,10 @@
 ghost use Rattle.std.specs.Prelude.{◌≡◌};
 ghost use Rattle.std.specs.FinMap as map;
-ghost use Rattle.mu_graph.specs.Names.{led_by, linked, leads_linked};
+ghost use Rattle.mu_graph.specs.Names.{members, led_by, linked, leads_linked};
 
-use crate::key_sets::{KeySet, copies};
+use crate::key_sets::KeySet;
 use crate::walks::Edges;
-use mu_tree::{Name, NameSet, Names, NoMemory, Table};
+use mu_tree::{Name, NameSet, NoMemory, Table};
 use std::alloc::Global;
 
 /// A set of names marks its members.
@@ -26,19 +26,19 @@ impl KeySet for NameSet {
     }
 }
 
-/// A map from names to lists of names, in which a name leads to those in its list.
-impl Edges for Table<Names> {
+/// A map from names to sets of names, in which a name leads to those in its set, in byte order.
+impl Edges for Table<NameSet> {
     type Set = NameSet;
 
-    ghost leads = { led_by (λ names. names) };
+    ghost leads = { led_by members };
 
-    ghost universe = { linked (λ names. names) };
+    ghost universe = { linked members };
 
-    ghost within = { leads_linked (λ names. names) };
+    ghost within = { leads_linked members };
 
     fn leads(&self, alloc: Global, key: &Name) -> Result<Vec<Name>, NoMemory> {
         match self.get(key) {
-            Some(names) => copies(alloc, names.items()),
+            Some(names) => Ok(names.names(alloc)?.into_vec()),
             None => Ok(Vec::new(alloc)),
         }
     }
