@@ -187,6 +187,24 @@ module _ {N : Type 0} where
     find_none [] none = refl
     find_none (m ∷ ms) none = cond-false (d m) (Some m) (find d ms) (false_from_ne_true (d m) (λ h. none m (inl refl) ((decides m).0 h))) ∙ find_none ms (λ n s. none n (inr s))
 
+    -- what a search finds is the first
+    pub found_first : (listed : List N) (n : N) → find d listed ≡ Some n → IsFirstOf P listed n
+    found_first [] n is = absurd (cc)
+    found_first (m ∷ ms) n is = go (found_first ms n) (d m) refl is
+      where
+        go : (find d ms ≡ Some n → IsFirstOf P ms n) → (passes : Bool) → d m ≡ passes → cond passes (Some m) (find d ms) ≡ Some n → ((m ≡ n) × P m) ⊎ ((P m → ⊥) × IsFirstOf P ms n)
+        go rest true passes found = inl (cc (found), (decides m).0 passes)
+        go rest false fails found = inr (λ p. false≢true (sym fails ∙ (decides m).1 p), rest found)
+
+    -- and where it finds none, there is none
+    pub found_none : (listed : List N) → find d listed ≡ None → NoneOf P listed
+    found_none [] none n s p = s
+    found_none (m ∷ ms) none n s p = go (found_none ms) (d m) refl none
+      where
+        go : (find d ms ≡ None → NoneOf P ms) → (passes : Bool) → d m ≡ passes → cond passes (Some m) (find d ms) ≡ None → ⊥
+        go rest true passes found = absurd (cc)
+        go rest false fails found = elim s [ inl e ↦ false≢true (sym fails ∙ (decides m).1 (subst P (sym e) p)) | inr t ↦ rest found n t p ]
+
     -- what is told as the first is what the test finds; `at` is the key behind what is told, such as a reference
     pub first_found_at : {M : Type 0} (at : M → N) (listed : List N) (first : Option M) → MatchOption first (NoneOf P listed) (λ m. IsFirstOf P listed (at m)) → find d listed ≡ option_map at first
     first_found_at at listed None none = find_none listed none

@@ -6,4 +6,5 @@ pub mod EntryLemmas
 pub mod NameLemmas
 pub mod PassLemmas
 pub mod PathLemmas
+pub mod ToldLemmas
 pub mod WalkLemmas

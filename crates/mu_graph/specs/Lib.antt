@@ -4,4 +4,5 @@ pub mod Derivations
 pub mod KeySets
 pub mod Members
 pub mod Names
+pub mod Told
 pub mod Walks
