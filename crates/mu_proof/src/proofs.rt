@@ -75,6 +75,16 @@ impl Proof {
         }
     }
 
+    /// Whether a box, in whatever box, has a label.
+    pub fn has_box(&self, label: &Name) -> bool
+        ensures { result ≡ is_box_label self.now label.now }
+    {
+        match find_in(self.items.items(), label) {
+            Some(item) => !item.is_line(),
+            None => false,
+        }
+    }
+
     /// Tests whether an item may go into a block, right before the item of the label `before` or at the end.
     ///
     /// # Errors
@@ -236,16 +246,6 @@ impl Proof {
         Ok(Proof {
             items: Item::copy_all(alloc, self.items.items())?,
         })
-    }
-
-    /// Whether a box has a label.
-    fn has_box(&self, label: &Name) -> bool
-        ensures { result ≡ is_box_label self.now label.now }
-    {
-        match find_in(self.items.items(), label) {
-            Some(item) => !item.is_line(),
-            None => false,
-        }
     }
 
     /// Alters the item of a label.
