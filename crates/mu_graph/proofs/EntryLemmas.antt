@@ -1,6 +1,7 @@
 -- The entries of a finite map by name as members of a list.
-use Rattle.std.proofs.Common.{sym, ap, subst, ◌∙◌, ◌≡◌, ℕ, Bool, true, false, List, [], ◌∷◌, map, Some, inl, inr}
+use Rattle.std.proofs.Common.{refl, sym, ap, subst, ◌∙◌, ◌≡◌, ℕ, Bool, true, false, List, [], ◌∷◌, map, Some, inl, inr}
 use Rattle.std.specs.Prelude.{◌&&◌, T}
+use Rattle.std.specs.List.Sorted.{IsStrictlySortedBy}
 use Rattle.std.specs.Ordering.{nat_cmp, eq_by_cmp, is_eq, is_lt, is_gt, ordering_reverse}
 use Rattle.std.specs.declared.cmp.Ordering.{Ordering}
 use Rattle.std.specs.declared.cmp.Ordering.TheVariants.{Less, Equal, Greater}
@@ -15,7 +16,7 @@ use Rattle.mu_tree.specs.Maps.{MapOf}
 use Rattle.mu_graph.specs.Circles.{IsFirstOf}
 use Rattle.mu_graph.specs.Derivations.{Stands}
 use Rattle.mu_graph.specs.Walks.{AreDistinct}
-use Rattle.mu_graph.proofs.DerivationLemmas.{stands_map}
+use Rattle.mu_graph.proofs.DerivationLemmas.{all_from, stands_map}
 
 and_left : (a b : Bool) → T (a && b) → T a
 and_left true b h = tt
@@ -27,6 +28,11 @@ and_right false b h = absurd h
 
 not_below_itself : (name : List ℕ) → T (is_lt (slice_cmp nat_cmp name name)) → ⊥
 not_below_itself name h = subst (λ order. T (is_lt order)) (tied_itself nat_list_cmp_total name) h
+
+less : (o : Ordering) → T (is_lt o) → o ≡ Less
+less Less below = refl
+less Equal below = absurd below
+less Greater below = absurd below
 
 turned : (o : Ordering) → T (is_lt o) → is_gt (ordering_reverse o) ≡ false → ⊥
 turned Less below fits = false≢true (sym fits)
@@ -47,6 +53,16 @@ module _ {V : Type 0} where
   -- no name has two entries
   pub distinct_keys : (m : MapOf V) → AreDistinct (finite.keys m)
   distinct_keys m = distinct_sorted (finite.entries m) (finite.entries_sorted m)
+
+  keys_sorted : (entries : List (List ℕ × V)) → T (is_sorted (slice_cmp nat_cmp) entries) → IsStrictlySortedBy (slice_cmp nat_cmp) (map (λ entry. entry.0) entries)
+  unfolding IsStrictlySortedBy
+  keys_sorted [] h = tt
+  keys_sorted (entry ∷ entries) h =
+      (all_from (λ other. slice_cmp nat_cmp entry.0 other ≡ Less) (map (λ each. each.0) entries) (λ other s. less _ (all_below entry.0 entries (and_left _ _ h) other s)), keys_sorted entries (and_right _ _ h))
+
+  -- the keys of a map stand in byte order
+  pub sorted_keys : (m : MapOf V) → IsStrictlySortedBy (slice_cmp nat_cmp) (finite.keys m)
+  sorted_keys m = keys_sorted (finite.entries m) (finite.entries_sorted m)
 
   least_first : (P : List ℕ → Type 0) (name : List ℕ) → P name → ((other : List ℕ) → P other → is_gt (slice_cmp nat_cmp name other) ≡ false)
       → (entries : List (List ℕ × V)) → T (is_sorted (slice_cmp nat_cmp) entries) → Stands name (map (λ entry. entry.0) entries) → IsFirstOf P (map (λ entry. entry.0) entries) name

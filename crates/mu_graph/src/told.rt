@@ -10,7 +10,7 @@ use mu_tree::{Name, NameSet, NoMemory};
 use std::alloc::Global;
 use std::cmp::Ordering;
 
-/// A set of keys of which some tell a name, each another one.
+/// A set of keys, some of which tell a name; no two tell the same.
 pub trait ToldSet: KeySet {
     /// The name that a key tells, none where it tells none.
     ghost told: { Self.Key → Option (List ℕ) };

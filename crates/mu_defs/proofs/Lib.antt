@@ -1,0 +1,11 @@
+pub mod BaseLemmas
+pub mod BaseNames
+pub mod DefinitionLemmas
+pub mod IndexLemmas
+pub mod LentValues
+pub mod OwnedLemmas
+pub mod PutEntries
+pub mod Settled
+pub mod SightLemmas
+pub mod UnitLemmas
+pub mod UseLemmas

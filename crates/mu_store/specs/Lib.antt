@@ -1,0 +1,11 @@
+pub mod Circles
+pub mod CitedSets
+pub mod CiterTables
+pub mod Codes
+pub mod Contexts
+pub mod Edits
+pub mod Entries
+pub mod KeptProofs
+pub mod ProofEdits
+pub mod ProofTables
+pub mod Stores
