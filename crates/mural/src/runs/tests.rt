@@ -1,7 +1,6 @@
 mod boxes;
 mod calls;
 mod examples;
-mod forms;
 mod pages;
 mod reasons;
 mod transcripts;
