@@ -1,2 +1,3 @@
-pub mod Acyclic
 pub mod RepeatLemmas
+pub mod TestLemmas
+pub mod Valid

@@ -1,5 +1,5 @@
 -- Which names of a command stand twice where each may stand once.
-use Rattle.std.specs.Prelude.{ℕ, List, [], ◌∷◌, ◌++◌, map, codes, Option, Some, None}
+use Rattle.std.specs.Prelude.{ℕ, List, [], ◌∷◌, ◌++◌, map, codes, Option, None}
 use Rattle.std.specs.Option.{option_map, option_or}
 use Rattle.mu_tree.specs.declared.claim.Claim.{Claim}
 use Rattle.mu_tree.specs.declared.claim.Hyp.{Hyp}
@@ -15,9 +15,13 @@ use Rattle.mu_proof.specs.declared.items.Item.TheOpen.{Item-F, Line, Block}
 use Rattle.mu_proof.specs.declared.items.Item.TheFolds.{fold-Item}
 use Rattle.mu_edit.specs.Repeats.{repeated}
 
+-- the first name that an earlier one of the list equals
+abbrev pub repeated_name : List (List ℕ) → Option Refusal
+repeated_name names = option_map Taken (repeated names)
+
 -- the first variable that an earlier one of the list equals
 abbrev pub repeated_variable : List TypedVar → Option Refusal
-repeated_variable vars = option_map Taken (repeated (map (λ v. v.name) vars))
+repeated_variable vars = repeated_name (map (λ v. v.name) vars)
 
 -- the first repeated variable of a hypothesis
 abbrev pub repeated_in_hypothesis : Hyp → Option Refusal
@@ -49,7 +53,7 @@ written_meta meta = codes "?" ++ meta
 -- the first abstraction that repeats a parameter
 abbrev pub repeated_parameter : List Given → Option Refusal
 repeated_parameter [] = None
-repeated_parameter (given ∷ inst) = option_or (option_map Taken (repeated given.params)) (repeated_parameter inst)
+repeated_parameter (given ∷ inst) = option_or (repeated_name given.params) (repeated_parameter inst)
 
 -- the first repeated metavariable of an instantiation, and else its first repeated parameter
 abbrev pub repeated_in_instantiation : List Given → Option Refusal

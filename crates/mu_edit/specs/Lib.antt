@@ -1,3 +1,4 @@
 pub mod Changes
 pub mod Distinct
 pub mod Repeats
+pub mod Storable

@@ -1,18 +1,19 @@
-ghost use Rattle.std.specs.Prelude.{◌≡◌};
-ghost use Rattle.std.specs.Option.{option_copied};
-ghost use Rattle.mu_edit.specs.Changes.{Applies, Puts, States, IsStorable};
-ghost use Rattle.mu_flat.specs.Edits.{IsOpen};
-ghost use Rattle.mu_flat.specs.Entries.{IsPlain};
+ghost use Rattle.mu_edit.specs.Changes.{Applies};
+ghost use Rattle.mu_edit.specs.Storable.{IsStorable};
 
-use crate::distinct::{own_variables_differ, reason_differs, sequents_differ};
+use crate::declaring::{
+    add_constant, add_parent, add_unit, alter_constant, alter_rule, define, state, take_parent,
+    undefine,
+};
+use crate::dropping::{drop_constant, drop_proof, drop_rule, drop_unit};
+use crate::proving::{add_proof, alter_box, cite, edit, put};
 use mu_command::Command;
 use mu_decl::{ConstDecl, Statement};
-use mu_flat::{EditFault, Store};
+use mu_flat::{EditFault, ProofEdit, Store};
 use mu_proof::{Item, ItemList};
-use mu_tree::{Claim, Kind, Name, Refusal, Shape, Why};
 use std::alloc::Global;
 
-/// Carries out a command. A query changes nothing, and neither does a form that is read alone.
+/// Carries out a command. A query changes nothing.
 ///
 /// # Errors
 ///
@@ -24,10 +25,37 @@ pub fn apply(alloc: Global, store: &mut Store, command: Command) -> Result<(), E
     ensures { Applies store.old store.new command result }
 {
     match command {
-        Command::Theory(unit) => add_theory(store, unit),
-        Command::Const(unit, name, shape, result) => add_constant(store, unit, name, shape, result),
-        Command::Axiom(unit, rule, claim) => add_axiom(alloc, store, unit, rule, claim),
-        Command::Rule(unit, rule, claim) => add_rule(alloc, store, unit, rule, claim),
+        Command::Theory(unit) => add_unit(alloc, store, unit),
+        Command::Parent(unit, parent) => add_parent(alloc, store, &unit, parent),
+        Command::Unparent(unit, parent) => take_parent(alloc, store, &unit, &parent),
+        Command::Const(unit, name, shape, kind) => {
+            let declared = ConstDecl {
+                theory: unit,
+                shape,
+                result: kind,
+            };
+            add_constant(alloc, store, name, declared)
+        }
+        Command::AlterConst(name, shape, kind) => alter_constant(alloc, store, name, shape, kind),
+        Command::Define(name, definition) => define(alloc, store, name, definition),
+        Command::Undefine(name) => undefine(alloc, store, &name),
+        Command::Axiom(unit, rule, claim) => {
+            let statement = Statement {
+                theory: unit,
+                is_axiom: true,
+                claim,
+            };
+            state(alloc, store, rule, statement)
+        }
+        Command::Rule(unit, rule, claim) => {
+            let statement = Statement {
+                theory: unit,
+                is_axiom: false,
+                claim,
+            };
+            state(alloc, store, rule, statement)
+        }
+        Command::AlterRule(rule, claim) => alter_rule(alloc, store, rule, claim),
         Command::Proof(rule, proof) => add_proof(alloc, store, rule, proof),
         Command::Line(rule, proof, label, block, before, tree) => {
             let line = Item::Line {
@@ -35,170 +63,62 @@ pub fn apply(alloc: Global, store: &mut Store, command: Command) -> Result<(), E
                 tree,
                 why: None,
             };
-            put(alloc, store, &rule, &proof, &block, before.as_ref(), line)
+            let change = ProofEdit::Insert {
+                block,
+                before,
+                item: line,
+            };
+            edit(alloc, store, &rule, &proof, change)
         }
         Command::Box(rule, proof, label, block, before, vars, assumptions) => {
-            let items = ItemList::new(alloc);
             let item = Item::Block {
                 label,
                 vars,
                 assumptions,
-                items,
+                items: ItemList::new(alloc),
             };
-            put(alloc, store, &rule, &proof, &block, before.as_ref(), item)
+            put(alloc, store, &rule, &proof, block, before, item)
+        }
+        Command::AlterLine(rule, proof, label, tree) => {
+            edit(
+                alloc,
+                store,
+                &rule,
+                &proof,
+                ProofEdit::SetTree { label, tree },
+            )
+        }
+        Command::AlterBox(rule, proof, label, vars, assumptions) => {
+            alter_box(alloc, store, &rule, &proof, label, vars, assumptions)
+        }
+        Command::Move(rule, proof, label, block, before) => {
+            let change = ProofEdit::Move {
+                label,
+                block,
+                before,
+            };
+            edit(alloc, store, &rule, &proof, change)
         }
         Command::Cite(rule, proof, label, why) => cite(alloc, store, &rule, &proof, &label, why),
-        _ => Ok(()),
+        Command::Unjustify(rule, proof, label) => {
+            edit(
+                alloc,
+                store,
+                &rule,
+                &proof,
+                ProofEdit::ClearReason { label },
+            )
+        }
+        Command::DropUnit(unit) => drop_unit(alloc, store, &unit),
+        Command::DropConst(name) => drop_constant(alloc, store, &name),
+        Command::DropRule(rule) => drop_rule(alloc, store, &rule),
+        Command::DropProof(rule, proof) => drop_proof(alloc, store, &rule, &proof),
+        Command::DropItem(rule, proof, label) => {
+            edit(alloc, store, &rule, &proof, ProofEdit::Remove { label })
+        }
+        Command::Status(_)
+        | Command::ShowUnit(_)
+        | Command::ShowRule(_)
+        | Command::ShowProof(_, _) => Ok(()),
     }
-}
-
-#[tactic(auto, unfolding(crate::specs::Changes::refusal, crate::specs::Changes::changed))]
-fn add_theory(store: &mut Store, unit: Name) -> Result<(), EditFault>
-    requires { IsStorable (Command.Theory unit) }
-    ensures { Applies store.old store.new (Command.Theory unit) result }
-{
-    if store.is_theory(&unit) {
-        return Err(EditFault::Refused(Refusal::Taken(unit.into_bytes())));
-    }
-    store.add_theory(unit)?;
-    Ok(())
-}
-
-#[tactic(auto, unfolding(crate::specs::Changes::refusal, crate::specs::Changes::changed))]
-fn add_constant(
-    store: &mut Store,
-    unit: Name,
-    name: Name,
-    shape: Shape,
-    kind: Kind,
-) -> Result<(), EditFault>
-    requires { IsStorable (Command.Const unit name shape kind) }
-    ensures { Applies store.old store.new (Command.Const unit name shape kind) result }
-{
-    if !store.is_theory(&unit) {
-        return Err(EditFault::Refused(Refusal::Unknown(unit.into_bytes())));
-    }
-    if store.is_constant(&name) {
-        return Err(EditFault::Refused(Refusal::Taken(name.into_bytes())));
-    }
-    let declared = ConstDecl {
-        theory: unit,
-        shape,
-        result: kind,
-    };
-    store.add_constant(name, declared)?;
-    Ok(())
-}
-
-#[tactic(auto, unfolding(crate::specs::Changes::refusal, crate::specs::Changes::changed))]
-fn add_axiom(
-    alloc: Global,
-    store: &mut Store,
-    unit: Name,
-    rule: Name,
-    claim: Claim,
-) -> Result<(), EditFault>
-    requires { IsStorable (Command.Axiom unit rule claim) }
-    ensures { Applies store.old store.new (Command.Axiom unit rule claim) result }
-{
-    state(
-        alloc,
-        store,
-        rule,
-        Statement {
-            theory: unit,
-            is_axiom: true,
-            claim,
-        },
-    )
-}
-
-#[tactic(auto, unfolding(crate::specs::Changes::refusal, crate::specs::Changes::changed))]
-fn add_rule(
-    alloc: Global,
-    store: &mut Store,
-    unit: Name,
-    rule: Name,
-    claim: Claim,
-) -> Result<(), EditFault>
-    requires { IsStorable (Command.Rule unit rule claim) }
-    ensures { Applies store.old store.new (Command.Rule unit rule claim) result }
-{
-    state(
-        alloc,
-        store,
-        rule,
-        Statement {
-            theory: unit,
-            is_axiom: false,
-            claim,
-        },
-    )
-}
-
-/// Adds a rule to a theory that must be there, under a name that must not.
-fn state(
-    alloc: Global,
-    store: &mut Store,
-    rule: Name,
-    statement: Statement,
-) -> Result<(), EditFault>
-    requires { IsPlain rule }
-    ensures { States store.old store.new rule statement result }
-{
-    if !store.is_theory(&statement.theory) {
-        return Err(EditFault::Refused(Refusal::Unknown(statement.theory.into_bytes())));
-    }
-    if store.is_rule(&rule) {
-        return Err(EditFault::Refused(Refusal::Taken(rule.into_bytes())));
-    }
-    sequents_differ(alloc, &statement.claim)?;
-    store.add_rule(rule, statement)?;
-    Ok(())
-}
-
-#[tactic(auto, unfolding(crate::specs::Changes::refusal, crate::specs::Changes::changed))]
-fn add_proof(alloc: Global, store: &mut Store, rule: Name, proof: Name) -> Result<(), EditFault>
-    ensures { Applies store.old store.new (Command.Proof rule proof) result }
-{
-    if store.proofs().find(&rule, &proof).is_some() {
-        return Err(EditFault::Refused(Refusal::Taken(proof.into_bytes())));
-    }
-    store.add_proof(alloc, rule, proof)?;
-    Ok(())
-}
-
-/// Puts an item into a block of a proof, right before an item of it or at its end.
-fn put(
-    alloc: Global,
-    store: &mut Store,
-    rule: &Name,
-    proof: &Name,
-    block: &Name,
-    before: Option<&Name>,
-    item: Item,
-) -> Result<(), EditFault>
-    requires { IsOpen item }
-    ensures { Puts store.old store.new rule.now proof.now block.now (option_copied before.entry) item result }
-{
-    store.permit_item(alloc, rule, proof, block, before, &item)?;
-    own_variables_differ(alloc, &item)?;
-    store.insert_item(alloc, rule, proof, block, before, item)
-}
-
-/// Cites a line of a proof to a reason.
-#[tactic(auto, unfolding(crate::specs::Changes::refusal, crate::specs::Changes::changed))]
-fn cite(
-    alloc: Global,
-    store: &mut Store,
-    rule: &Name,
-    proof: &Name,
-    label: &Name,
-    why: Why,
-) -> Result<(), EditFault>
-    ensures { Applies store.old store.new (Command.Cite rule.now proof.now label.now why) result }
-{
-    store.permit_line(alloc, rule, proof, label)?;
-    reason_differs(alloc, &why)?;
-    store.cite(alloc, rule, proof, label, why)
 }

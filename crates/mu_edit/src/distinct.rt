@@ -1,9 +1,6 @@
 ghost use Rattle.std.specs.Prelude.{◌≡◌, None, Some, IfErr, IfOk, OnOk};
-ghost use Rattle.std.specs.Option.{option_map};
 ghost use Rattle.mu_tree.specs.declared.refusal.Refusal.{Refusal as RefusalOf};
-ghost use Rattle.mu_tree.specs.declared.refusal.Refusal.TheVariants.{Taken};
-ghost use Rattle.mu_edit.specs.Distinct.{repeated_in_claim, repeated_in_hypotheses, repeated_in_hypothesis, repeated_in_instantiation, repeated_in_item, repeated_in_reason, repeated_parameter, repeated_variable, written_meta};
-ghost use Rattle.mu_edit.specs.Repeats.{repeated};
+ghost use Rattle.mu_edit.specs.Distinct.{repeated_in_claim, repeated_in_hypotheses, repeated_in_hypothesis, repeated_in_instantiation, repeated_in_item, repeated_in_reason, repeated_name, repeated_parameter, repeated_variable, written_meta};
 
 use crate::repeats::first_repeat;
 use mu_flat::EditFault;
@@ -16,11 +13,26 @@ use std::alloc::Global;
 /// # Errors
 ///
 /// `Refused` with the first that an earlier one equals. `NoMemory`.
-fn variables_differ(alloc: Global, vars: &[TypedVar]) -> Result<(), EditFault>
+pub(crate) fn variables_differ(alloc: Global, vars: &[TypedVar]) -> Result<(), EditFault>
     ensures ok { OnOk result (repeated_variable vars.now ≡ None) }
     ensures fault { IfErr result (λ fault. (refusal : RefusalOf) → fault ≡ EditFault.Refused refusal → repeated_variable vars.now ≡ Some refusal) }
 {
     match first_repeat(alloc, vars)? {
+        Some(name) => Err(taken(alloc, name)?),
+        None => Ok(()),
+    }
+}
+
+/// Whether no name of a list stands twice, with the refusal where one does.
+///
+/// # Errors
+///
+/// `Refused` with the first that an earlier one equals. `NoMemory`.
+pub(crate) fn names_differ(alloc: Global, names: &[Name]) -> Result<(), EditFault>
+    ensures ok { OnOk result (repeated_name names.now ≡ None) }
+    ensures fault { IfErr result (λ fault. (refusal : RefusalOf) → fault ≡ EditFault.Refused refusal → repeated_name names.now ≡ Some refusal) }
+{
+    match first_repeat(alloc, names)? {
         Some(name) => Err(taken(alloc, name)?),
         None => Ok(()),
     }
@@ -108,13 +120,10 @@ fn parameters_differ(alloc: Global, inst: &[Given]) -> Result<(), EditFault>
 }
 
 fn abstraction_differs(alloc: Global, given: &Given) -> Result<(), EditFault>
-    ensures ok { OnOk result (option_map Taken (repeated given.now.params) ≡ None) }
-    ensures fault { IfErr result (λ fault. (refusal : RefusalOf) → fault ≡ EditFault.Refused refusal → option_map Taken (repeated given.now.params) ≡ Some refusal) }
+    ensures ok { OnOk result (repeated_name given.now.params ≡ None) }
+    ensures fault { IfErr result (λ fault. (refusal : RefusalOf) → fault ≡ EditFault.Refused refusal → repeated_name given.now.params ≡ Some refusal) }
 {
-    match first_repeat(alloc, given.params.items())? {
-        Some(name) => Err(taken(alloc, name)?),
-        None => Ok(()),
-    }
+    names_differ(alloc, given.params.items())
 }
 
 /// Whether no variable that an item brings in stands twice, with the refusal where one does.

@@ -2,7 +2,12 @@
 #![tactic(auto)]
 
 mod changes;
+mod declaring;
 mod distinct;
+mod dropping;
+mod permits;
+mod proving;
+mod refusing;
 mod repeats;
 
 pub use changes::apply;

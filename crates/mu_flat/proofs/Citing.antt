@@ -1,9 +1,10 @@
 -- What rules lead to after an edit of a proof.
 use Rattle.std.proofs.Common.{◌≡◌, inl, inr, refl, sym, ap, subst, ◌∙◌, cond, ℕ, true, false, List, [], ◌∷◌, ◌++◌, Option, Some, None}
-use Rattle.std.specs.Prelude.{◌⊎◌, is_some}
+use Rattle.std.specs.Prelude.{◌⊎◌, if◌then◌else◌, is_some, nat_eq}
 use Rattle.std.specs.List.{flat_map}
 use Rattle.std.specs.Option.{option_map_or}
-use Rattle.std.specs.Ordering.{nat_cmp, eq_by_cmp}
+use Rattle.std.specs.Ordering.{nat_cmp, eq_by_cmp, is_eq}
+use Rattle.std.specs.declared.cmp.Ordering.{Ordering}
 use Rattle.std.specs.declared.cmp.Ordering.TheVariants.{Less, Equal, Greater}
 use Rattle.std.specs.Cmp.Lexicographic.{slice_cmp, nat_list_cmp_total}
 use Rattle.std.specs.FinMap as finite
@@ -14,21 +15,20 @@ use Rattle.mu_tree.specs.declared.why.Given.{Given}
 use Rattle.mu_tree.specs.declared.why.Ref.{Ref}
 use Rattle.mu_tree.specs.declared.why.Why.{Why}
 use Rattle.mu_tree.specs.declared.why.Why.TheVariants as why
-use Rattle.mu_tree.proofs.MapLemmas.{same_name, get-insert_here, get-insert_other, contains_key-insert}
+use Rattle.mu_tree.proofs.MapLemmas.{same_name, get-insert_here, get-insert_other, contains_key-insert, get-remove_here, get-remove_other, insert_got, insert_removed, remove_absent}
 use Rattle.mu_tree.proofs.TableLemmas.{no_entries}
 use Rattle.mu_graph.specs.Derivations.{Stands}
 use Rattle.mu_graph.specs.Circles.{DiffersAt, GainsAt}
 use Rattle.mu_graph.proofs.DerivationLemmas.{stands_front, stands_back, stands_either}
-use Rattle.mu_proof.specs.Edits.{inserted, altered}
+use Rattle.mu_proof.specs.Edits.{altered}
 use Rattle.mu_proof.specs.declared.alteration.Alteration.TheVariants as alteration
 use Rattle.mu_proof.specs.declared.items.Item.{Item}
 use Rattle.mu_proof.specs.Citations.{cites, cited_by, morphism_cited}
 use Rattle.mu_proof.specs.declared.citations.Cited.{Cited}
 use Rattle.mu_proof.specs.declared.citations.Cited.TheVariants.{Rule, Morphism}
 use Rattle.mu_flat.specs.CiterTables.{CitersOf, citers_of, with_citer, HasAllCiters, AddsCiter}
-use Rattle.mu_flat.specs.ProofTables.{ProofsOf, proofs_of, proof_at, with_proof, with_change_in, with_item_at, has_line_at, with_reason_at, cited_in, leads}
-use Rattle.mu_flat.specs.Edits.{IsOpen}
-use Rattle.mu_flat.proofs.EditCites.{inserted_cites, open_cites, reason_cites, reason_there}
+use Rattle.mu_flat.specs.ProofTables.{ProofsOf, proofs_of, proof_at, with_proof, without_proof, with_change_in, with_change_at, has_line_at, with_reason_at, cited_in, leads}
+use Rattle.mu_flat.proofs.EditCites.{reason_cites, reason_there}
 use Rattle.mu_flat.proofs.ProofTables.{proof_at-with_proof}
 
 -- ---- maps of lists
@@ -103,28 +103,74 @@ module _ (proofs : ProofsOf) (rule : List ℕ) where
           | inr n ↦ inr (subst (λ found. Stands to (option_map_or cited_in found [])) (get-insert_other proofs rule there name n) s)
         ]
 
--- ---- an empty proof and an item that is open
+-- ---- an empty proof, an edit that brings nothing in, and a proof that is taken out
 -- an empty proof cites nothing
 pub empty_leads : (proofs : ProofsOf) (rule proof : List ℕ) (from to : Cited) → Stands to (leads (with_proof proofs rule proof []) from) → Stands to (leads proofs from)
 empty_leads proofs rule proof from to s = elim (edit_leads proofs rule proof [] [] (λ other t. inl t) from to s) [ inl t ↦ absurd t | inr t ↦ t ]
 
--- nor does an item that is open
-module _ (proofs : ProofsOf) (rule proof block : List ℕ) (before : Option (List ℕ)) (new : Item) (open_ : IsOpen new) where
-  put_leads : (items : List Item) → proof_at proofs rule proof ≡ Some items → (from to : Cited) → Stands to (leads (with_proof proofs rule proof (inserted items block before new)) from) → Stands to (leads proofs from)
-  put_leads items is from to s =
-      elim (edit_leads proofs rule proof (inserted items block before new) []
-      (λ other t. elim (inserted_cites block before new items other t) [
-        | inl u ↦ absurd (open_cites new open_ other u)
-        | inr u ↦ inr (cited_leads proofs rule proof items is other u)
-      ]) from to s) [ inl t ↦ absurd t | inr t ↦ t ]
+-- nor does a change of a proof that brings nothing in
+module _ (proofs : ProofsOf) (rule proof : List ℕ) (change : List Item → List Item) (fewer : (items : List Item) (to : Cited) → Stands to (cites (change items)) → Stands to (cites items)) where
+  changed_leads : (items : List Item) → proof_at proofs rule proof ≡ Some items → (from to : Cited) → Stands to (leads (with_proof proofs rule proof (change items)) from) → Stands to (leads proofs from)
+  changed_leads items is from to s =
+      elim (edit_leads proofs rule proof (change items) [] (λ other t. inr (cited_leads proofs rule proof items is other (fewer items other t))) from to s) [ inl t ↦ absurd t | inr t ↦ t ]
 
-  -- where it is put into one of the proofs
-  pub item_leads : (from to : Cited) → Stands to (leads (with_item_at proofs rule proof block before new) from) → Stands to (leads proofs from)
-  item_leads = go (proof_at proofs rule proof) refl
+  pub change_leads : (from to : Cited) → Stands to (leads (with_change_at proofs rule proof change) from) → Stands to (leads proofs from)
+  change_leads = go (proof_at proofs rule proof) refl
     where
-      go : (found : Option (List Item)) → proof_at proofs rule proof ≡ found → (from to : Cited) → Stands to (leads (with_change_in proofs rule proof (λ items. inserted items block before new) found) from) → Stands to (leads proofs from)
+      go : (found : Option (List Item)) → proof_at proofs rule proof ≡ found → (from to : Cited) → Stands to (leads (with_change_in proofs rule proof change found) from) → Stands to (leads proofs from)
       go None is from to s = s
-      go (Some items) is from to s = put_leads items is from to s
+      go (Some items) is from to s = changed_leads items is from to s
+
+-- what was there is there with one more entry, at a name that was not there
+module _ {V K : Type 0} (links : V → List K) where
+  put_new_links : (name : List ℕ) (value : V) (entries : List (List ℕ × V)) (to : K) → find (slice_cmp nat_cmp) name entries ≡ None → Stands to (flat_map (λ entry. links entry.1) entries)
+      → Stands to (flat_map (λ entry. links entry.1) (put (slice_cmp nat_cmp) name value entries))
+  put_new_links name value [] to none s = absurd s
+  put_new_links name value (first ∷ entries) to none s = go (slice_cmp nat_cmp name first.0) (put_new_links name value entries to) none
+    where
+      rest : List K
+      rest = flat_map (λ entry. links entry.1) entries
+
+      go : (o : Ordering) → (find (slice_cmp nat_cmp) name entries ≡ None → Stands to rest → Stands to (flat_map (λ entry. links entry.1) (put (slice_cmp nat_cmp) name value entries)))
+          → cond (is_eq o) (Some first.1) (find (slice_cmp nat_cmp) name entries) ≡ None
+          → Stands to (flat_map (λ entry. links entry.1) (by_order o ((name, value) ∷ first ∷ entries) ((first.0, value) ∷ entries) (first ∷ put (slice_cmp nat_cmp) name value entries)))
+      go Less later is = stands_back to (links value) (links first.1 ++ rest) s
+      go Equal later is = absurd (cc)
+      go Greater later is = elim (stands_either to (links first.1) rest s) [
+        | inl t ↦ stands_front to (links first.1) (flat_map (λ entry. links entry.1) (put (slice_cmp nat_cmp) name value entries)) t
+        | inr t ↦ stands_back to (links first.1) (flat_map (λ entry. links entry.1) (put (slice_cmp nat_cmp) name value entries)) (later is t)
+      ]
+
+  -- without an entry there is no more
+  pub removed_links : (table : MapOf V) (name : List ℕ) (to : K) → Stands to (flat_map (λ entry. links entry.1) (finite.entries (finite.remove table name))) → Stands to (flat_map (λ entry. links entry.1) (finite.entries table))
+  removed_links table name to s = go (finite.get table name) refl
+    where
+      go : (found : Option V) → finite.get table name ≡ found → Stands to (flat_map (λ entry. links entry.1) (finite.entries table))
+      go None is = subst (λ (t : MapOf V). Stands to (flat_map (λ entry. links entry.1) (finite.entries t))) (remove_absent table name is) s
+      go (Some value) is =
+          subst (λ es. Stands to (flat_map (λ entry. links entry.1) es))
+          (sym (finite.entries-insert nat_list_cmp_total (finite.remove table name) name value) ∙ ap finite.entries (insert_removed table name value ∙ insert_got table name value is))
+          (put_new_links name value (finite.entries (finite.remove table name)) to (sym (finite.get-entries (finite.remove table name) name) ∙ get-remove_here table name) s)
+
+-- without one of its proofs a rule leads to no more
+module _ (proofs : ProofsOf) (rule proof : List ℕ) where
+  abbrev left : MapOf (List Item)
+  left = finite.remove (proofs_of proofs rule) proof
+
+  pub removed_leads : (from to : Cited) → Stands to (leads (without_proof proofs rule proof) from) → Stands to (leads proofs from)
+  removed_leads (Morphism morphism) to s = absurd s
+  removed_leads (Rule name) to s = elim (nat_eq (finite.len left) 0) as (λ b. Stands to (leads (if b then finite.remove proofs rule else finite.insert proofs rule left) (Rule name)) → Stands to (leads proofs (Rule name))) [
+    | true ↦ λ t. elim (same_name rule name) [
+      | inl e ↦ absurd (subst (λ found. Stands to (option_map_or cited_in found [])) (ap (finite.get (finite.remove proofs rule)) (sym e) ∙ get-remove_here proofs rule) t)
+      | inr n ↦ subst (λ found. Stands to (option_map_or cited_in found [])) (get-remove_other proofs rule name n) t
+    ]
+    | false ↦ λ t. elim (same_name rule name) [
+      | inl e ↦ subst (λ r. Stands to (leads proofs (Rule r))) e
+          (proofs_lead proofs rule to (removed_links cites (proofs_of proofs rule) proof to
+          (subst (λ found. Stands to (option_map_or cited_in found [])) (ap (finite.get (finite.insert proofs rule left)) (sym e) ∙ get-insert_here proofs rule left) t)))
+      | inr n ↦ subst (λ found. Stands to (option_map_or cited_in found [])) (get-insert_other proofs rule left name n) t
+    ]
+  ] s
 
 -- ---- another reason of a line
 module _ (proofs : ProofsOf) (rule proof label : List ℕ) (why : Option Why) where

@@ -1,6 +1,6 @@
 -- What the items of a proof cite after an edit of them.
-use Rattle.std.proofs.Common.{◌≡◌, ◌⊎◌, inl, inr, refl, sym, ap, subst, ◌∙◌, cond, ℕ, Bool, true, false, List, [], ◌∷◌, ◌++◌, map, take, drop, None}
-use Rattle.std.specs.Prelude.{Option}
+use Rattle.std.proofs.Common.{◌≡◌, ◌⊎◌, inl, inr, refl, sym, ap, subst, ◌∙◌, cond, ℕ, Bool, true, false, List, [], ◌∷◌, ◌++◌, map, take, drop, find, Some, None}
+use Rattle.std.specs.Prelude.{Option, not}
 use Rattle.std.specs.Bool.{nat_eq}
 use Rattle.std.specs.List.{AllByRecursion, insert, list_any}
 use Rattle.std.specs.Cmp.Lexicographic.{pointwise}
@@ -12,12 +12,13 @@ use Rattle.mu_tree.specs.declared.claim.TypedVar.{TypedVar}
 use Rattle.mu_tree.specs.declared.trees.Tree.{Tree}
 use Rattle.mu_tree.specs.declared.why.Why.{Why}
 use Rattle.mu_graph.specs.Derivations.{Stands}
-use Rattle.mu_graph.proofs.DerivationLemmas.{stands_front, stands_back, stands_either}
+use Rattle.mu_graph.proofs.DerivationLemmas.{stands_front, stands_back, stands_either, stands_one}
 use Rattle.mu_proof.specs.Citations.{item_cites, cites, cited_by}
-use Rattle.mu_proof.specs.Edits.{edited_item, edited, with_item, place_of, putting, inserted, altered_step, altered_item, altering, altered}
+use Rattle.mu_proof.specs.Edits.{edited_item, edited, with_item, place_of, putting, inserted, dropping, removed, altered_step, altered_item, altering, altered}
 use Rattle.mu_proof.specs.Items.{has_label, is_line_at, all_in, all_items}
 use Rattle.mu_proof.specs.Names.{root}
 use Rattle.mu_proof.specs.Proofs.{is_line_label}
+use Rattle.mu_proof.specs.declared.alteration.Alteration.{Alteration}
 use Rattle.mu_proof.specs.declared.alteration.Alteration.TheVariants as alteration
 use Rattle.mu_proof.specs.declared.citations.Cited.{Cited}
 use Rattle.mu_proof.specs.declared.items.Item.{Item}
@@ -27,7 +28,9 @@ use Rattle.mu_proof.specs.declared.items.Item.TheViews.{out-Item, roll-Item, out
 use Rattle.mu_proof.proofs.CitationEquations.{cites-line, cites-block}
 use Rattle.mu_proof.proofs.ItemEquations.{is_line-block, all_in-line, all_in-block, edited_item-line, edited_item-block}
 use Rattle.mu_proof.proofs.ItemInduction.{item_ind}
-use Rattle.mu_flat.specs.Edits.{IsOpen}
+use Rattle.mu_flat.specs.ProofEdits.{IsOpen, PutsOpen, item_at, made, moving}
+use Rattle.mu_flat.specs.declared.proof_edits.ProofEdit.{ProofEdit}
+use Rattle.mu_flat.specs.declared.proof_edits.ProofEdit.TheVariants.{Insert, SetTree, SetHead, Move, ClearReason, Remove}
 
 -- ---- any edit
 module _ (change : List ℕ → List Item → List Item) (extra : List Cited) (more : (name : List ℕ) (inner : List Item) (to : Cited) → Stands to (cites (change name inner)) → Stands to extra ⊎ Stands to (cites inner)) where
@@ -85,31 +88,110 @@ pub open_cites : (i : Item) → IsOpen i → (to : Cited) → Stands to (item_ci
 open_cites i (inl (l, t, is)) to s = subst (Stands to) (ap item_cites is ∙ cites-line l t None) s
 open_cites i (inr (l, vars, trees, is)) to s = subst (Stands to) (ap item_cites is ∙ cites-block l vars trees []) s
 
+-- ---- an altered item
+-- where an alteration of the top of an item brings in only what is extra, the edit does
+module _ (label : List ℕ) (change : Alteration) (extra : List Cited) (top : (y : Item-F Item) (to : Cited) → Stands to (item_cites (altered_step change y)) → Stands to extra ⊎ Stands to (item_cites (roll-Item y))) where
+  changed_cites : (i : Item) (to : Cited) → Stands to (item_cites (altered_item label change i)) → Stands to extra ⊎ Stands to (item_cites i)
+  changed_cites i to s = elim (has_label label i) as (λ b. Stands to (item_cites (cond b (altered_step change (out-Item i)) i)) → Stands to extra ⊎ Stands to (item_cites i)) [
+    | true ↦ λ t. elim (top (out-Item i) to t) [ inl u ↦ inl u | inr u ↦ inr (subst (λ j. Stands to (item_cites j)) (roll-out-Item i) u) ]
+    | false ↦ λ t. inr t
+  ] s
+
+  alter_cites : (name : List ℕ) (inner : List Item) (to : Cited) → Stands to (cites (altering label change name inner)) → Stands to extra ⊎ Stands to (cites inner)
+  alter_cites name [] to s = absurd s
+  alter_cites name (i ∷ inner) to s = elim (stands_either to (item_cites (altered_item label change i)) (cites (map (altered_item label change) inner)) s) [
+    | inl t ↦ elim (changed_cites i to t) [ inl u ↦ inl u | inr u ↦ inr (stands_front to (item_cites i) (cites inner) u) ]
+    | inr t ↦ elim (alter_cites name inner to t) [ inl u ↦ inl u | inr u ↦ inr (stands_back to (item_cites i) (cites inner) u) ]
+  ]
+
+  pub altered_cites : (items : List Item) (to : Cited) → Stands to (cites (altered items label change)) → Stands to extra ⊎ Stands to (cites items)
+  altered_cites = edited_cites (altering label change) extra alter_cites
+
+-- another expression brings nothing in
+tree_top : (tree : Tree) (y : Item-F Item) (to : Cited) → Stands to (item_cites (altered_step (alteration.Tree tree) y)) → Stands to [] ⊎ Stands to (item_cites (roll-Item y))
+tree_top tree (Line l before why) to s = inr (subst (Stands to) (cites-line l tree why ∙ sym (ap item_cites (item.rolls-Line l before why) ∙ cites-line l before why)) s)
+tree_top tree (Block l vars trees items) to s = inr s
+
+pub tree_cites : (label : List ℕ) (tree : Tree) (items : List Item) (to : Cited) → Stands to (cites (altered items label (alteration.Tree tree))) → Stands to (cites items)
+tree_cites label tree items to s = elim (altered_cites label (alteration.Tree tree) [] (tree_top tree) items to s) [ inl t ↦ absurd t | inr t ↦ t ]
+
+-- and neither do other variables and assumptions
+head_top : (vars : List TypedVar) (assumptions : List Tree) (y : Item-F Item) (to : Cited) → Stands to (item_cites (altered_step (alteration.Head vars assumptions) y)) → Stands to [] ⊎ Stands to (item_cites (roll-Item y))
+head_top vars assumptions (Line l before why) to s = inr s
+head_top vars assumptions (Block l before were items) to s =
+    inr (subst (Stands to) (cites-block l vars assumptions items ∙ sym (ap item_cites (item.rolls-Block l before were items) ∙ cites-block l before were items)) s)
+
+pub head_cites : (label : List ℕ) (vars : List TypedVar) (assumptions : List Tree) (items : List Item) (to : Cited) → Stands to (cites (altered items label (alteration.Head vars assumptions))) → Stands to (cites items)
+head_cites label vars assumptions items to s = elim (altered_cites label (alteration.Head vars assumptions) [] (head_top vars assumptions) items to s) [ inl t ↦ absurd t | inr t ↦ t ]
+
+-- ---- an item less
+module _ (label : List ℕ) where
+  drop_cites : (name : List ℕ) (inner : List Item) (to : Cited) → Stands to (cites (dropping label name inner)) → Stands to [] ⊎ Stands to (cites inner)
+  drop_cites name [] to s = absurd s
+  drop_cites name (i ∷ inner) to s = elim (not (has_label label i)) as (λ b. Stands to (cites (cond b (i ∷ dropping label name inner) (dropping label name inner))) → Stands to [] ⊎ Stands to (cites (i ∷ inner))) [
+    | true ↦ λ t. elim (stands_either to (item_cites i) (cites (dropping label name inner)) t) [
+      | inl u ↦ inr (stands_front to (item_cites i) (cites inner) u)
+      | inr u ↦ elim (drop_cites name inner to u) [ inl v ↦ inl v | inr v ↦ inr (stands_back to (item_cites i) (cites inner) v) ]
+    ]
+    | false ↦ λ t. elim (drop_cites name inner to t) [ inl v ↦ inl v | inr v ↦ inr (stands_back to (item_cites i) (cites inner) v) ]
+  ] s
+
+  -- without an item, a proof cites no more
+  pub removed_cites : (items : List Item) (to : Cited) → Stands to (cites (removed items label)) → Stands to (cites items)
+  removed_cites items to s = elim (edited_cites (dropping label) [] drop_cites items to s) [ inl t ↦ absurd t | inr t ↦ t ]
+
+-- ---- an item in another place
+-- an item in an item cites no more
+abbrev CitesWithin : Item → Type 0
+CitesWithin i = (j : Item) → Stands j (all_in i) → (to : Cited) → Stands to (item_cites j) → Stands to (item_cites i)
+
+each_within : (items : List Item) → AllByRecursion CitesWithin items → (j : Item) → Stands j (all_items items) → (to : Cited) → Stands to (item_cites j) → Stands to (cites items)
+each_within [] all j stands to s = absurd stands
+each_within (i ∷ items) all j stands to s = elim (stands_either j (all_in i) (all_items items) stands) [
+  | inl here ↦ stands_front to (item_cites i) (cites items) (all.0 j here to s)
+  | inr later ↦ stands_back to (item_cites i) (cites items) (each_within items all.1 j later to s)
+]
+
+cites_within : (i : Item) → CitesWithin i
+cites_within = item_ind CitesWithin
+    (λ l t w j stands to s. subst (λ (k : Item). Stands to (item_cites k)) (sym (stands_one j (item.Line l t w) (subst (Stands j) (all_in-line l t w) stands))) s)
+    (λ l vars trees items all j stands to s. elim (subst (Stands j) (all_in-block l vars trees items) stands) [
+      | inl same ↦ subst (λ (k : Item). Stands to (item_cites k)) (sym same) s
+      | inr below ↦ subst (Stands to) (sym (cites-block l vars trees items)) (each_within items all j below to s)
+    ])
+
+all_within : (items : List Item) → AllByRecursion CitesWithin items
+all_within [] = tt
+all_within (i ∷ items) = (cites_within i, all_within items)
+
+found_stands : (test : Item → Bool) (items : List Item) (found : Item) → find test items ≡ Some found → Stands found items
+found_stands test [] found is = let no : None ≡ Some found = is in absurd (cc)
+found_stands test (i ∷ items) found is = go (test i) (found_stands test items found) is
+  where
+    go : (b : Bool) → (find test items ≡ Some found → Stands found items) → cond b (Some i) (find test items) ≡ Some found → Stands found (i ∷ items)
+    go true rest e = inl (cc)
+    go false rest e = inr (rest e)
+
+module _ (items : List Item) (label block : List ℕ) (before : Option (List ℕ)) where
+  moved_cites : (found : Option Item) → item_at items label ≡ found → (to : Cited) → Stands to (cites (moving items label block before found)) → Stands to (cites items)
+  moved_cites None is to s = s
+  moved_cites (Some i) is to s = elim (inserted_cites block before i (removed items label) to s) [
+    | inl t ↦ each_within items (all_within items) i (found_stands (has_label label) (all_items items) i is) to t
+    | inr t ↦ removed_cites label items to t
+  ]
+
 -- ---- another reason
 module _ (label : List ℕ) (why : Option Why) where
   abbrev given : Item → Item
   given = altered_item label (alteration.Why why)
 
-  top_cites : (y : Item-F Item) (to : Cited) → Stands to (item_cites (altered_step (alteration.Why why) y)) → Stands to (cited_by why) ⊎ Stands to (item_cites (roll-Item y))
-  top_cites (Line l t before) to s = inl (subst (Stands to) (cites-line l t why) s)
-  top_cites (Block l vars trees items) to s = inr s
-
-  given_cites : (i : Item) (to : Cited) → Stands to (item_cites (given i)) → Stands to (cited_by why) ⊎ Stands to (item_cites i)
-  given_cites i to s = elim (has_label label i) as (λ b. Stands to (item_cites (cond b (altered_step (alteration.Why why) (out-Item i)) i)) → Stands to (cited_by why) ⊎ Stands to (item_cites i)) [
-    | true ↦ λ t. elim (top_cites (out-Item i) to t) [ inl u ↦ inl u | inr u ↦ inr (subst (λ j. Stands to (item_cites j)) (roll-out-Item i) u) ]
-    | false ↦ λ t. inr t
-  ] s
-
-  alter_cites : (name : List ℕ) (inner : List Item) (to : Cited) → Stands to (cites (altering label (alteration.Why why) name inner)) → Stands to (cited_by why) ⊎ Stands to (cites inner)
-  alter_cites name [] to s = absurd s
-  alter_cites name (i ∷ inner) to s = elim (stands_either to (item_cites (given i)) (cites (map given inner)) s) [
-    | inl t ↦ elim (given_cites i to t) [ inl u ↦ inl u | inr u ↦ inr (stands_front to (item_cites i) (cites inner) u) ]
-    | inr t ↦ elim (alter_cites name inner to t) [ inl u ↦ inl u | inr u ↦ inr (stands_back to (item_cites i) (cites inner) u) ]
-  ]
+  reason_top : (y : Item-F Item) (to : Cited) → Stands to (item_cites (altered_step (alteration.Why why) y)) → Stands to (cited_by why) ⊎ Stands to (item_cites (roll-Item y))
+  reason_top (Line l t before) to s = inl (subst (Stands to) (cites-line l t why) s)
+  reason_top (Block l vars trees items) to s = inr s
 
   -- with another reason of a line, a proof cites what the reason does and what it cited before
   pub reason_cites : (items : List Item) (to : Cited) → Stands to (cites (altered items label (alteration.Why why))) → Stands to (cited_by why) ⊎ Stands to (cites items)
-  reason_cites = edited_cites (altering label (alteration.Why why)) (cited_by why) alter_cites
+  reason_cites = altered_cites label (alteration.Why why) (cited_by why) reason_top
 
   -- a line that has the label gets the reason
   given_line : (l : List ℕ) (t : Tree) (w : Option Why) → has_label label (item.Line l t w) ≡ true → given (item.Line l t w) ≡ item.Line l t why
@@ -161,3 +243,12 @@ module _ (label : List ℕ) (why : Option Why) where
   -- where a line has the label, all that the reason cites
   pub reason_there : (items : List Item) → is_line_label items label ≡ true → (to : Cited) → Stands to (cited_by why) → Stands to (cites (altered items label (alteration.Why why)))
   reason_there items is to s = each_gains to s items (all_gain to s items) is
+
+-- ---- any edit that brings nothing in
+pub made_cites : (edit : ProofEdit) → PutsOpen edit → (items : List Item) (to : Cited) → Stands to (cites (made edit items)) → Stands to (cites items)
+made_cites (Insert block before new) opens items to s = elim (inserted_cites block before new items to s) [ inl t ↦ absurd (open_cites new opens to t) | inr t ↦ t ]
+made_cites (SetTree label tree) opens items to s = tree_cites label tree items to s
+made_cites (SetHead label vars assumptions) opens items to s = head_cites label vars assumptions items to s
+made_cites (Move label block before) opens items to s = moved_cites items label block before (item_at items label) refl to s
+made_cites (ClearReason label) opens items to s = elim (reason_cites label None items to s) [ inl t ↦ absurd t | inr t ↦ t ]
+made_cites (Remove label) opens items to s = removed_cites label items to s

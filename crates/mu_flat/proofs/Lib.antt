@@ -1,10 +1,14 @@
 pub mod CircleLemmas
+pub mod CiteKeeping
 pub mod CitedMarks
 pub mod Citing
-pub mod Contexts
+pub mod CountLemmas
 pub mod EditCites
 pub mod FirstCircle
+pub mod FoundItems
 pub mod Keeping
+pub mod ProofChanges
+pub mod ProofKeeping
 pub mod ProofTables
 pub mod Refusals
 pub mod Validity

@@ -1,14 +1,15 @@
 -- Values of a table that are changed in their place.
-use Rattle.std.proofs.Common.{◌≡◌, refl, sym, ap, ◌∙◌, ℕ, true, false, List, Some, None}
-use Rattle.std.specs.Prelude.{Option, Result, Ok, Err, OnOk, OnErr, OnSome, is_some}
+use Rattle.std.proofs.Common.{◌≡◌, inl, inr, true-eqb, refl, sym, ap, ◌∙◌, ℕ, true, false, List, Some, None}
+use Rattle.std.specs.Prelude.{if◌then◌else◌, nat_eq, Option, Result, Ok, Err, OnOk, OnErr, OnSome, is_some}
 use Rattle.std.specs.Option.{option_map_or}
 use Rattle.std.specs.FinMap as finite
 use Rattle.std.specs.Ordering.{nat_cmp}
 use Rattle.std.specs.Cmp.Lexicographic.{slice_cmp}
+use Rattle.std.proofs.lemmas.Bool.{cases_Bool}
 use Rattle.mu_tree.specs.Maps.{MapOf}
-use Rattle.mu_tree.proofs.MapLemmas.{get-insert_here, insert_got}
+use Rattle.mu_tree.proofs.MapLemmas.{get-insert_here, insert_got, remove_absent, remove_inserted}
 use Rattle.mu_proof.specs.declared.items.Item.{Item}
-use Rattle.mu_flat.specs.ProofTables.{ProofsOf, proofs_of, proof_at, with_proof, has_line_at, with_change_in, with_change_at}
+use Rattle.mu_flat.specs.ProofTables.{ProofsOf, proofs_of, proof_at, with_proof, without_proof, has_line_at, with_change_in, with_change_at}
 
 -- a value that is left as it was leaves the table as it was
 pub left_alone : {V : Type 0} (table after : MapOf V) (name : List ℕ) (found value : V) → Some found ≡ finite.get table name → after ≡ finite.insert table name value → value ≡ found → after ≡ table
@@ -68,3 +69,32 @@ module _ (proofs : ProofsOf) (rule proof : List ℕ) (own : MapOf (List Item)) (
           ap (finite.insert proofs rule) (changed items e)
           ∙ ap (λ o. finite.insert proofs rule (finite.insert o proof (change items))) own_is
           ∙ ap (with_change_in proofs rule proof change) (sym e ∙ proof_of_own)
+
+-- ---- a proof taken out
+-- what is left of a rule without proofs is nothing
+pub owned_none : (proofs : ProofsOf) (rule proof : List ℕ) → finite.get proofs rule ≡ None → without_proof proofs rule proof ≡ proofs
+owned_none proofs rule proof is =
+    let none : proofs_of proofs rule ≡ finite.empty = ap (λ found. option_map_or (λ (f : MapOf (List Item)). f) found finite.empty) is in
+    let left : finite.remove (proofs_of proofs rule) proof ≡ finite.empty =
+    ap (λ o. finite.remove o proof) none ∙ remove_absent finite.empty proof (finite.get-empty (slice_cmp nat_cmp) proof) in
+    let length : finite.len (finite.remove (proofs_of proofs rule) proof) ≡ 0 = ap finite.len left ∙ finite.len-empty (slice_cmp nat_cmp) (List Item) in
+    ap (λ n. if nat_eq n 0 then finite.remove proofs rule else finite.insert proofs rule (finite.remove (proofs_of proofs rule) proof)) length ∙ remove_absent proofs rule is
+
+module _ (proofs : ProofsOf) (rule proof : List ℕ) (own left : MapOf (List Item)) (is : Some own ≡ finite.get proofs rule) (taken : left ≡ finite.remove own proof) where
+  same_left : left ≡ finite.remove (proofs_of proofs rule) proof
+  same_left = taken ∙ ap (λ o. finite.remove o proof) (own_is proofs rule proof own is)
+
+  -- where nothing is left, the rule is taken out
+  pub owned_empty : (lent : ProofsOf) → lent ≡ finite.insert proofs rule left → left ≡ finite.empty → finite.remove lent rule ≡ without_proof proofs rule proof
+  owned_empty lent written none =
+      let length : 0 ≡ finite.len (finite.remove (proofs_of proofs rule) proof) = sym (ap finite.len (sym same_left ∙ none) ∙ finite.len-empty (slice_cmp nat_cmp) (List Item)) in
+      ap (λ (all : ProofsOf). finite.remove all rule) written ∙ remove_inserted proofs rule left
+      ∙ ap (λ n. if nat_eq n 0 then finite.remove proofs rule else finite.insert proofs rule (finite.remove (proofs_of proofs rule) proof)) length
+
+  -- and where something is, it stays
+  pub owned_some : (lent : ProofsOf) → lent ≡ finite.insert proofs rule left → (left ≡ finite.empty → ⊥) → lent ≡ without_proof proofs rule proof
+  owned_some lent written some =
+      let more : nat_eq (finite.len left) 0 ≡ false = elim (cases_Bool (nat_eq (finite.len left) 0)) [ inl none ↦ absurd (some (finite.empty_of_len left (true-eqb (finite.len left) 0 (sym none)))) | inr e ↦ e ] in
+      let kept : false ≡ nat_eq (finite.len (finite.remove (proofs_of proofs rule) proof)) 0 = sym (ap (λ o. nat_eq (finite.len o) 0) (sym same_left) ∙ more) in
+      written ∙ ap (finite.insert proofs rule) same_left
+      ∙ ap (λ b. if b then finite.remove proofs rule else finite.insert proofs rule (finite.remove (proofs_of proofs rule) proof)) kept

@@ -1,4 +1,3 @@
-pub mod Base
 pub mod Circles
 pub mod CitedSets
 pub mod CiterTables
@@ -6,5 +5,7 @@ pub mod Codes
 pub mod Contexts
 pub mod Edits
 pub mod Entries
+pub mod KeptProofs
+pub mod ProofEdits
 pub mod ProofTables
 pub mod Stores

@@ -1,5 +1,5 @@
 -- The proofs of rules, and which rules lead to which by what their proofs cite.
-use Rattle.std.specs.Prelude.{ℕ, Bool, false, List, [], Option, Some, None}
+use Rattle.std.specs.Prelude.{◌+◌, nat_eq, if◌then◌else◌, ℕ, Bool, false, List, [], ◌∷◌, Option, Some, None}
 use Rattle.std.specs.Option.{option_map_or}
 use Rattle.std.specs.List.{flat_map}
 use Rattle.std.specs.FinMap as finite
@@ -9,8 +9,10 @@ use Rattle.mu_graph.specs.Derivations.{Stands}
 use Rattle.mu_graph.specs.Names.{led_by, linked, leads_linked}
 use Rattle.mu_proof.specs.declared.items.Item.{Item}
 use Rattle.mu_proof.specs.declared.alteration.Alteration.TheVariants as alteration
-use Rattle.mu_proof.specs.Edits.{inserted, altered}
+use Rattle.mu_proof.specs.Edits.{altered}
 use Rattle.mu_proof.specs.Proofs.{is_line_label}
+use Rattle.mu_flat.specs.ProofEdits.{made}
+use Rattle.mu_flat.specs.declared.proof_edits.ProofEdit.{ProofEdit}
 use Rattle.mu_proof.specs.Citations.{cites}
 use Rattle.mu_proof.specs.declared.citations.Cited.{Cited}
 use Rattle.mu_proof.specs.declared.citations.Cited.TheVariants.{Rule, Morphism}
@@ -45,13 +47,30 @@ with_change_in proofs rule proof change (Some items) = with_proof proofs rule pr
 abbrev pub with_change_at : ProofsOf → List ℕ → List ℕ → (List Item → List Item) → ProofsOf
 with_change_at proofs rule proof change = with_change_in proofs rule proof change (proof_at proofs rule proof)
 
+-- the proofs with an edit of one of them made
+abbrev pub with_edit_at : ProofsOf → List ℕ → List ℕ → ProofEdit → ProofsOf
+with_edit_at proofs rule proof edit = with_change_at proofs rule proof (made edit)
+
 -- the proofs with another reason of a line
 abbrev pub with_reason_at : ProofsOf → List ℕ → List ℕ → List ℕ → Option Why → ProofsOf
 with_reason_at proofs rule proof label why = with_change_at proofs rule proof (λ items. altered items label (alteration.Why why))
 
--- the proofs with an item put into a block of one of them, before an item of the block or at its end
-abbrev pub with_item_at : ProofsOf → List ℕ → List ℕ → List ℕ → Option (List ℕ) → Item → ProofsOf
-with_item_at proofs rule proof block before item = with_change_at proofs rule proof (λ items. inserted items block before item)
+-- the proofs with these as those of a rule, which is a name without proofs where there are none
+abbrev pub with_own : ProofsOf → List ℕ → MapOf (List Item) → ProofsOf
+with_own proofs rule own = if nat_eq (finite.len own) 0 then finite.remove proofs rule else finite.insert proofs rule own
+
+-- the proofs without one of a rule
+abbrev pub without_proof : ProofsOf → List ℕ → List ℕ → ProofsOf
+without_proof proofs rule proof = with_own proofs rule (finite.remove (proofs_of proofs rule) proof)
+
+-- how many proofs the rules of some entries have
+abbrev pub count_in : List (List ℕ × MapOf (List Item)) → ℕ
+count_in [] = 0
+count_in (entry ∷ entries) = finite.len entry.1 + count_in entries
+
+-- how many proofs there are
+abbrev pub count_proofs : ProofsOf → ℕ
+count_proofs proofs = count_in (finite.entries proofs)
 
 -- what some proofs cite
 abbrev pub cited_in : MapOf (List Item) → List Cited

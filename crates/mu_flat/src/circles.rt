@@ -1,20 +1,17 @@
-ghost use Rattle.std.specs.Prelude.{◌≡◌, ◌∷◌, ◌++◌, [], Some, List, IfOk};
-ghost use Rattle.std.specs.Option.{option_copied};
+ghost use Rattle.std.specs.Prelude.{◌≡◌, Some, IfOk};
 ghost use Rattle.mu_proof.specs.Citations.{cited_by};
-ghost use Rattle.mu_proof.specs.declared.citations.Cited.{Cited as CitedOf};
 ghost use Rattle.mu_proof.specs.declared.citations.Cited.TheVariants.{Rule};
 ghost use Rattle.mu_graph.specs.Circles.{GainsAt, IsAcyclic};
 ghost use Rattle.mu_flat.specs.ProofTables.{ProofsOf, leads};
-ghost use Rattle.mu_flat.specs.Circles.{IsLeastRule, first_circle};
+ghost use Rattle.mu_flat.specs.Circles.{first_circle};
 ghost use Rattle.mu_flat.specs.CiterTables.{HasAllCiters};
 
 use crate::citer_tables::CiterTable;
 use crate::proof_tables::ProofTable;
-use mu_graph::{are_apart, between};
+use mu_graph::first_closed;
 use mu_proof::Cited;
 use mu_tree::{Name, NoMemory, Why};
 use std::alloc::Global;
-use std::cmp::Ordering;
 
 /// The first rule name in byte order that leads back to itself where a rule cites what a reason cites, and no rule does so
 /// before. `citers` has the rules that cite a rule. It looks at no more than what the reason leads to, and at little where
@@ -36,14 +33,8 @@ pub(crate) fn first_circle(
 {
     let starts = cited_by(alloc, why)?;
     let target = Cited::Rule(rule.copy(alloc)?);
-    if are_apart(alloc, proofs, citers, starts.as_slice(), &target)? {
-        return Ok(None);
-    }
-    let closed = between(alloc, proofs, starts, &target)?;
-    match least_rule(closed.as_slice()) {
-        Some(name) => Ok(Some(name.copy(alloc)?)),
-        None => Ok(None),
-    }
+    let first = first_closed(alloc, proofs, citers, starts, &target)?;
+    Ok(first)
 }
 
 /// What a reason cites.
@@ -58,29 +49,4 @@ fn cited_by(alloc: Global, why: &Why) -> Result<Vec<Cited>, NoMemory>
         }
     }
     Ok(found)
-}
-
-/// The least name of a rule among the members, in byte order.
-fn least_rule(members: &[Cited]) -> Option<&Name>
-    ensures { IsLeastRule members.now (option_copied result) }
-{
-    let mut least = None;
-    for member in members {
-        least = lesser_rule(least, member);
-    }
-    least
-}
-
-/// The least name of a rule among those of which one is the least so far and one more member.
-fn lesser_rule<'a>(least: Option<&'a Name>, member: &'a Cited) -> Option<&'a Name>
-    ensures { (front : List CitedOf) → IsLeastRule front (option_copied least.entry) → IsLeastRule (front ++ member.now ∷ []) (option_copied result) }
-{
-    match (member, least) {
-        (Cited::Morphism(_), _) => least,
-        (Cited::Rule(rule), None) => Some(rule),
-        (Cited::Rule(rule), Some(name)) => match name.cmp(rule) {
-            Ordering::Greater => Some(rule),
-            _ => Some(name),
-        },
-    }
 }

@@ -1,8 +1,9 @@
-ghost use Rattle.mu_flat.specs.CitedSets.{is_marked};
+ghost use Rattle.mu_proof.specs.declared.citations.Cited.TheVariants.{Rule};
+ghost use Rattle.mu_flat.specs.CitedSets.{is_marked, told_name, rules_tell};
 
-use mu_graph::KeySet;
+use mu_graph::{KeySet, ToldSet};
 use mu_proof::Cited;
-use mu_tree::{NameSet, NoMemory};
+use mu_tree::{Name, NameSet, NoMemory};
 use std::alloc::Global;
 
 /// A set of rules and morphisms.
@@ -35,6 +36,22 @@ impl KeySet for CitedSet {
         match key {
             Cited::Rule(name) => self.rules.add(name),
             Cited::Morphism(name) => self.morphisms.add(name),
+        }
+    }
+}
+
+/// A rule tells its name, and a morphism none.
+impl ToldSet for CitedSet {
+    ghost told = { told_name };
+
+    ghost named = { Rule };
+
+    ghost tells = { rules_tell };
+
+    fn told(key: &Cited) -> Option<&Name> {
+        match key {
+            Cited::Rule(name) => Some(name),
+            Cited::Morphism(_) => None,
         }
     }
 }

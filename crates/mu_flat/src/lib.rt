@@ -1,16 +1,16 @@
-//! The store: theories, constants, rules and proofs by name, as a context for checks, with the test for circles of citations.
+//! The store: theories, constants, definitions, rules and proofs by name, as a context for checks, with the tests for circles.
 #![tactic(auto)]
 
-mod base;
 mod circles;
 mod cited_sets;
 mod citer_tables;
 mod edits;
+mod proof_edits;
 mod proof_tables;
 mod stores;
 
-pub use base::{is_base, is_base_constant};
 pub use cited_sets::CitedSet;
 pub use edits::EditFault;
+pub use proof_edits::ProofEdit;
 pub use proof_tables::ProofTable;
 pub use stores::Store;

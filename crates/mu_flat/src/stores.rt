@@ -1,39 +1,36 @@
-ghost use Rattle.std.specs.Prelude.{◌≡◌, ◌&&◌, ℕ, List, false, None, Some, [], IfOk, OnOk, OnErr, IfErr};
-ghost use Rattle.std.specs.Option.{option_copied};
+ghost use Rattle.std.specs.Prelude.{◌≡◌, ◌<◌, false, true, None, Some, [], IfOk, OnOk, OnErr, IfErr};
 ghost use Rattle.std.specs.FinMap as finite;
-ghost use Rattle.mu_flat.specs.Base.{is_base as base_test, is_base_constant as base_constant_test};
-ghost use Rattle.mu_flat.specs.Entries.{Entries, initial, IsTheory, IsPlain, with_theory, with_constant, with_rule, with_items};
-ghost use Rattle.std.specs.Bool.{nat_eq};
-ghost use Rattle.std.specs.Cmp.Lexicographic.{pointwise};
 ghost use Rattle.mu_tree.specs.declared.refusal.Refusal.{Refusal as RefusalOf};
-ghost use Rattle.mu_flat.specs.CiterTables.{AddsCiter};
-ghost use Rattle.mu_flat.specs.ProofTables.{proof_at};
-ghost use Rattle.mu_flat.specs.Edits.{IsOpen, item_refusal, place_refusal, missing_refusal, circle_refusal, cite_refusal, with_item, with_reason};
+ghost use Rattle.mu_defs.specs.Base.{is_base as base_test, is_base_constant as base_constant_test};
+ghost use Rattle.mu_defs.specs.DefinitionTables.{first_constant};
+ghost use Rattle.mu_defs.specs.Units.{first_unit, with_parent, without_parent};
 ghost use Rattle.mu_flat.specs.Circles.{CirclesAreExact};
-ghost use Rattle.mu_flat.specs.Contexts.{names_in};
+ghost use Rattle.mu_flat.specs.Edits.{cite_refusal, edit_refusal};
+ghost use Rattle.mu_flat.specs.Entries.{initial, IsPlain, IsTheory, IsValid, with_constants, with_definitions, with_proofs, with_rules, with_units};
+ghost use Rattle.mu_flat.specs.ProofEdits.{PutsOpen};
+ghost use Rattle.mu_flat.specs.ProofTables.{count_proofs, proof_at, with_edit_at, with_proof, with_reason_at, without_proof};
+ghost use Rattle.mu_flat.specs.Stores.{IsEmptyUnit};
 
-use crate::base::{base_name, base_table};
-use crate::circles::first_circle;
-use crate::citer_tables::CiterTable;
 use crate::edits::EditFault;
+use crate::proof_edits::ProofEdit;
 use crate::proof_tables::ProofTable;
 use mu_decl::{ConstDecl, Context, MorphMap, Own, Statement};
-use mu_proof::Item;
-use mu_tree::{Definition, Name, NameSet, Names, NoMemory, Refusal, Table, Why};
+use mu_defs::{DefinitionTable, OwnedTable, UnitTable, base_table, constant_at};
+use mu_tree::{Definition, Name, Names, NoMemory, Table, Why};
 use std::alloc::Global;
-use std::cmp::Ordering;
 use std::marker::Model;
 
-/// Theories, constants, rules and proofs, by name. Contracts see the finite maps, which are valid at every moment: no
-/// rule leads back to itself by what its proofs cite.
+/// Theories, constants, definitions, rules and proofs, by name. Contracts see the finite maps, which are valid at every
+/// moment.
 #[derive(Drop)]
 pub struct Store {
-    theories: NameSet,
-    constants: Table<ConstDecl>,
-    rules: Table<Statement>,
+    /// The constants of the base theory.
+    base: Table<ConstDecl>,
+    units: UnitTable,
+    constants: OwnedTable<ConstDecl>,
+    definitions: DefinitionTable,
+    rules: OwnedTable<Statement>,
     proofs: ProofTable,
-    /// The rules that cite a rule, and perhaps some that cited it before.
-    citers: CiterTable,
 }
 
 impl Model for Store {
@@ -60,12 +57,43 @@ impl Store {
         ensures { IfOk result (λ store. store ≡ initial) }
     {
         Ok(Store {
-            theories: NameSet::new(alloc),
-            constants: base_table(alloc)?,
-            rules: Table::new(alloc),
+            base: base_table(alloc)?,
+            units: UnitTable::new(alloc),
+            constants: OwnedTable::new(alloc),
+            definitions: DefinitionTable::new(alloc),
+            rules: OwnedTable::new(alloc),
             proofs: ProofTable::new(alloc),
-            citers: CiterTable::new(alloc),
         })
+    }
+
+    /// The theories with their parents. The base theory is not among them.
+    pub fn units(&self) -> &UnitTable
+        ensures { result.now ≡ self.now.units }
+    {
+        &self.units
+    }
+
+    /// The constants that were declared, without those of the base theory.
+    pub fn constants(&self) -> &OwnedTable<ConstDecl>
+        ensures value { result.now ≡ self.now.constants }
+        ensures valid { IsValid self.now }
+    {
+        &self.constants
+    }
+
+    /// The definitions of constants.
+    pub fn definitions(&self) -> &DefinitionTable
+        ensures { result.now ≡ self.now.definitions }
+    {
+        &self.definitions
+    }
+
+    /// The rules, axioms among them.
+    pub fn rules(&self) -> &OwnedTable<Statement>
+        ensures value { result.now ≡ self.now.rules }
+        ensures valid { IsValid self.now }
+    {
+        &self.rules
     }
 
     /// The proofs of all rules.
@@ -75,39 +103,50 @@ impl Store {
         &self.proofs
     }
 
-    /// Whether a theory of this name is stored. The base theory is not.
-    pub fn is_theory(&self, name: &Name) -> bool
-        ensures { result ≡ finite.contains_key self.now.theories name.now }
-    {
-        self.theories.has(name)
-    }
-
-    /// Whether there is a constant of this name.
-    pub fn is_constant(&self, name: &Name) -> bool
-        ensures { result ≡ finite.contains_key self.now.constants name.now }
-    {
-        self.constants.has(name)
-    }
-
-    /// Whether there is a rule of this name.
-    pub fn is_rule(&self, name: &Name) -> bool
-        ensures { result ≡ finite.contains_key self.now.rules name.now }
-    {
-        self.rules.has(name)
-    }
-
-    /// Adds a theory.
+    /// Adds a theory without parents.
     ///
     /// # Errors
     ///
     /// `NoMemory` leaves the store as it was.
-    pub fn add_theory(&mut self, name: Name) -> Result<(), NoMemory>
+    pub fn add_unit(&mut self, alloc: Global, name: Name) -> Result<(), NoMemory>
         requires plain { IsPlain name }
         requires other { base_test name ≡ false }
-        ensures ok { OnOk result (self.new ≡ with_theory self.old name) }
+        requires new { finite.contains_key self.old.units name ≡ false }
+        requires room { finite.len self.old.units < 4096 }
+        ensures ok { OnOk result (self.new ≡ with_units self.old (finite.insert self.old.units name finite.empty)) }
         ensures err { OnErr result (self.new ≡ self.old) }
     {
-        self.theories.add(name)
+        self.units.add(alloc, name)
+    }
+
+    /// Takes a theory out in which there is nothing, with its parents.
+    pub fn take_unit(&mut self, name: &Name)
+        requires { IsEmptyUnit self.old name.now }
+        ensures { self.new ≡ with_units self.old (finite.remove self.old.units name.now) }
+    {
+        self.units.take(name);
+    }
+
+    /// Adds a parent to a theory.
+    ///
+    /// # Errors
+    ///
+    /// `NoMemory` leaves the store as it was.
+    pub fn add_parent(&mut self, alloc: Global, unit: &Name, parent: Name) -> Result<(), NoMemory>
+        requires there { IsTheory self.old unit.now }
+        requires free { first_unit (with_parent self.old.units unit.now parent) ≡ None }
+        ensures ok { OnOk result (self.new ≡ with_units self.old (with_parent self.old.units unit.now parent)) }
+        ensures err { OnErr result (self.new ≡ self.old) }
+    {
+        self.units.add_parent(alloc, unit, parent)
+    }
+
+    /// Takes a parent from a theory.
+    pub fn take_parent(&mut self, unit: &Name, parent: &Name)
+        requires { IsTheory self.old unit.now }
+        ensures { self.new ≡ with_units self.old (without_parent self.old.units unit.now parent.now) }
+    {
+        self.units.take_parent(unit, parent);
     }
 
     /// Adds a constant to a theory, or replaces the one of this name.
@@ -115,14 +154,54 @@ impl Store {
     /// # Errors
     ///
     /// `NoMemory` leaves the store as it was.
-    pub fn add_constant(&mut self, name: Name, declared: ConstDecl) -> Result<(), NoMemory>
+    pub fn put_constant(
+        &mut self,
+        alloc: Global,
+        name: Name,
+        declared: ConstDecl,
+    ) -> Result<(), NoMemory>
         requires plain { IsPlain name }
         requires other { base_constant_test name ≡ false }
         requires theory { IsTheory self.old declared.theory }
-        ensures ok { OnOk result (self.new ≡ with_constant self.old name declared) }
+        requires room { finite.contains_key self.old.constants name ≡ false → finite.len self.old.constants < 65536 }
+        ensures ok { OnOk result (self.new ≡ with_constants self.old (finite.insert self.old.constants name declared)) }
         ensures err { OnErr result (self.new ≡ self.old) }
     {
-        self.constants.put(name, declared)
+        self.constants.put(alloc, name, declared)
+    }
+
+    /// Takes a constant out that has no definition.
+    pub fn take_constant(&mut self, name: &Name)
+        requires { finite.contains_key self.old.definitions name.now ≡ false }
+        ensures { self.new ≡ with_constants self.old (finite.remove self.old.constants name.now) }
+    {
+        self.constants.take(name);
+    }
+
+    /// Defines a constant that is declared, in place of the definition that it had.
+    ///
+    /// # Errors
+    ///
+    /// `NoMemory` leaves the store as it was.
+    pub fn define(
+        &mut self,
+        alloc: Global,
+        name: Name,
+        definition: Definition,
+    ) -> Result<(), NoMemory>
+        requires there { finite.contains_key self.old.constants name ≡ true }
+        requires free { first_constant (finite.insert self.old.definitions name definition) ≡ None }
+        ensures ok { OnOk result (self.new ≡ with_definitions self.old (finite.insert self.old.definitions name definition)) }
+        ensures err { OnErr result (self.new ≡ self.old) }
+    {
+        self.definitions.put(alloc, name, definition)
+    }
+
+    /// Takes the definition from a constant.
+    pub fn undefine(&mut self, name: &Name)
+        ensures { self.new ≡ with_definitions self.old (finite.remove self.old.definitions name.now) }
+    {
+        self.definitions.take(name);
     }
 
     /// Adds a rule to a theory, or replaces the one of this name.
@@ -130,13 +209,26 @@ impl Store {
     /// # Errors
     ///
     /// `NoMemory` leaves the store as it was.
-    pub fn add_rule(&mut self, name: Name, statement: Statement) -> Result<(), NoMemory>
+    pub fn put_rule(
+        &mut self,
+        alloc: Global,
+        name: Name,
+        statement: Statement,
+    ) -> Result<(), NoMemory>
         requires plain { IsPlain name }
         requires theory { IsTheory self.old statement.theory }
-        ensures ok { OnOk result (self.new ≡ with_rule self.old name statement) }
+        requires room { finite.contains_key self.old.rules name ≡ false → finite.len self.old.rules < 65536 }
+        ensures ok { OnOk result (self.new ≡ with_rules self.old (finite.insert self.old.rules name statement)) }
         ensures err { OnErr result (self.new ≡ self.old) }
     {
-        self.rules.put(name, statement)
+        self.rules.put(alloc, name, statement)
+    }
+
+    /// Takes a rule out. Its proofs stay.
+    pub fn take_rule(&mut self, name: &Name)
+        ensures { self.new ≡ with_rules self.old (finite.remove self.old.rules name.now) }
+    {
+        self.rules.take(name);
     }
 
     /// Adds an empty proof of a rule, which needn't be there.
@@ -145,79 +237,42 @@ impl Store {
     ///
     /// `NoMemory` leaves the store as it was.
     pub fn add_proof(&mut self, alloc: Global, rule: Name, proof: Name) -> Result<(), NoMemory>
-        requires { proof_at self.old.proofs rule proof ≡ None }
-        ensures ok { OnOk result (self.new ≡ with_items self.old rule proof []) }
+        requires plain { IsPlain proof }
+        requires new { proof_at self.old.proofs rule proof ≡ None }
+        requires room { count_proofs self.old.proofs < 65536 }
+        ensures ok { OnOk result (self.new ≡ with_proofs self.old (with_proof self.old.proofs rule proof [])) }
         ensures err { OnErr result (self.new ≡ self.old) }
     {
         self.proofs.add(alloc, rule, proof)
     }
 
-    /// Tells whether there is a place for an item in a block of a proof, right before an item of the block or at its
-    /// end, and whether the item brings labels that it may have. It doesn't tell whether there is room for it.
-    ///
-    /// # Errors
-    ///
-    /// `Refused` where there is no such proof, block or item, or where a label that the new item brings is taken: the
-    /// first of them that fits. `NoMemory` may come at any call.
-    pub fn permit_item(
-        &self,
-        alloc: Global,
-        rule: &Name,
-        proof: &Name,
-        block: &Name,
-        before: Option<&Name>,
-        item: &Item,
-    ) -> Result<(), EditFault>
-        ensures ok { OnOk result (place_refusal self.now rule.now proof.now block.now (option_copied before.entry) item.now ≡ None) }
-        ensures fault { IfErr result (λ fault. (refusal : RefusalOf) → fault ≡ EditFault.Refused refusal → place_refusal self.now rule.now proof.now block.now (option_copied before.entry) item.now ≡ Some refusal) }
+    /// Takes a proof of a rule out, with all its items.
+    pub fn take_proof(&mut self, rule: &Name, proof: &Name)
+        ensures { self.new ≡ with_proofs self.old (without_proof self.old.proofs rule.now proof.now) }
     {
-        self.proofs
-            .permit_item(alloc, rule, proof, block, before, item)
+        self.proofs.take(rule, proof);
     }
 
-    /// Puts an item that is still open, a line without a reason or a box without items, into a block of a proof, right
-    /// before an item of the block or at its end.
+    /// Makes an edit in a proof that brings no citation into it.
     ///
     /// # Errors
     ///
-    /// `Refused` where there is no such proof, block or item, where a label that the new item brings is taken, where
-    /// boxes would be too deep in boxes, or where the proof would have more items than it may have: the first of them
-    /// that fits. `NoMemory` may come at any call. Each leaves the store as it was.
-    pub fn insert_item(
+    /// `Refused` where there is no such proof, and else with the first fault of the edit that fits. `NoMemory` may come at
+    /// any call. Each leaves the store as it was.
+    pub fn edit_proof(
         &mut self,
         alloc: Global,
         rule: &Name,
         proof: &Name,
-        block: &Name,
-        before: Option<&Name>,
-        item: Item,
+        edit: ProofEdit,
     ) -> Result<(), EditFault>
-        requires { IsOpen item }
-        ensures ok { OnOk result (item_refusal self.old rule.now proof.now block.now (option_copied before.entry) item ≡ None) }
-        ensures new { OnOk result (self.new ≡ with_item self.old rule.now proof.now block.now (option_copied before.entry) item) }
-        ensures fault { IfErr result (λ fault. (refusal : RefusalOf) → fault ≡ EditFault.Refused refusal → item_refusal self.old rule.now proof.now block.now (option_copied before.entry) item ≡ Some refusal) }
+        requires { PutsOpen edit }
+        ensures ok { OnOk result (edit_refusal self.old.proofs rule.now proof.now edit ≡ None) }
+        ensures new { OnOk result (self.new ≡ with_proofs self.old (with_edit_at self.old.proofs rule.now proof.now edit)) }
+        ensures fault { IfErr result (λ fault. (refusal : RefusalOf) → fault ≡ EditFault.Refused refusal → edit_refusal self.old.proofs rule.now proof.now edit ≡ Some refusal) }
         ensures err { OnErr result (self.new ≡ self.old) }
     {
-        self.proofs
-            .insert_item(alloc, rule, proof, block, before, item)
-    }
-
-    /// Tells whether there is a line of a label in a proof, in whatever box.
-    ///
-    /// # Errors
-    ///
-    /// `Refused` where there is no such proof, and else where it has no such line. `NoMemory` may come at any call.
-    pub fn permit_line(
-        &self,
-        alloc: Global,
-        rule: &Name,
-        proof: &Name,
-        label: &Name,
-    ) -> Result<(), EditFault>
-        ensures ok { OnOk result (missing_refusal self.now rule.now proof.now label.now ≡ None) }
-        ensures fault { IfErr result (λ fault. (refusal : RefusalOf) → fault ≡ EditFault.Refused refusal → missing_refusal self.now rule.now proof.now label.now ≡ Some refusal) }
-    {
-        self.proofs.permit_line(alloc, rule, proof, label)
+        self.proofs.edit(alloc, rule, proof, edit)
     }
 
     /// Cites a line of a proof to a reason, in place of the one that it had.
@@ -227,7 +282,6 @@ impl Store {
     /// `Refused` where there is no such proof, where it has no such line, and else where afterwards some rule would
     /// lead back to itself: the first of them that fits. `NoMemory` may come at any call. Each leaves the store as it
     /// was.
-    #[tactic(auto, using(crate::proofs::FirstCircle::circles_are_exact))]
     pub fn cite(
         &mut self,
         alloc: Global,
@@ -236,45 +290,14 @@ impl Store {
         label: &Name,
         why: Why,
     ) -> Result<(), EditFault>
-        ensures ok { OnOk result (cite_refusal self.old rule.now proof.now label.now why ≡ None) }
-        ensures new { OnOk result (self.new ≡ with_reason self.old rule.now proof.now label.now why) }
-        ensures fault { IfErr result (λ fault. (refusal : RefusalOf) → fault ≡ EditFault.Refused refusal → cite_refusal self.old rule.now proof.now label.now why ≡ Some refusal) }
+        ensures ok { OnOk result (cite_refusal self.old.proofs rule.now proof.now label.now why ≡ None) }
+        ensures new { OnOk result (self.new ≡ with_proofs self.old (with_reason_at self.old.proofs rule.now proof.now label.now (Some why))) }
+        ensures fault { IfErr result (λ fault. (refusal : RefusalOf) → fault ≡ EditFault.Refused refusal → cite_refusal self.old.proofs rule.now proof.now label.now why ≡ Some refusal) }
         ensures err { OnErr result (self.new ≡ self.old) }
         ensures law { CirclesAreExact }
     {
-        self.permit_line(alloc, rule, proof, label)?;
-        self.permit_reason(alloc, rule, &why)?;
-        add_citer(alloc, &mut self.citers, rule, &why)?;
-        self.proofs.set_reason(rule, proof, label, why);
-        Ok(())
+        self.proofs.cite(alloc, rule, proof, label, why)
     }
-
-    /// Tells whether no rule leads back to itself where a line of some proof of a rule gets a reason.
-    fn permit_reason(&self, alloc: Global, rule: &Name, why: &Why) -> Result<(), EditFault>
-        ensures ok { OnOk result ((proof label : List ℕ) → missing_refusal self.now rule.now proof label ≡ None → circle_refusal self.now rule.now proof label why.now ≡ None) }
-        ensures fault { IfErr result (λ fault. (refusal : RefusalOf) → fault ≡ EditFault.Refused refusal → (proof label : List ℕ) → missing_refusal self.now rule.now proof label ≡ None → circle_refusal self.now rule.now proof label why.now ≡ Some refusal) }
-    {
-        match first_circle(alloc, &self.proofs, &self.citers, rule, why)? {
-            Some(name) => Err(EditFault::Refused(Refusal::Circle(name.into_bytes()))),
-            None => Ok(()),
-        }
-    }
-}
-
-/// Adds a rule as one that cites the rule that a reason cites, where it cites one.
-fn add_citer(
-    alloc: Global,
-    citers: &mut CiterTable,
-    citer: &Name,
-    why: &Why,
-) -> Result<(), NoMemory>
-    ensures ok { OnOk result (AddsCiter citers.old citers.new citer.now (Some why.now)) }
-    ensures err { OnErr result (citers.new ≡ citers.old) }
-{
-    if let Why::Rule { rule, .. } = why {
-        citers.add(alloc, rule.copy(alloc)?, citer.copy(alloc)?)?;
-    }
-    Ok(())
 }
 
 #[tactic(auto, using(mu_decl::specs::Nothing::nothing_equations))]
@@ -287,11 +310,11 @@ impl Context for Store {
     ghost exact = { lawful_so };
 
     fn constant(&self, name: &Name) -> Option<&ConstDecl> {
-        self.constants.get(name)
+        constant_at(&self.base, self.constants.values(), name)
     }
 
-    fn definition(&self, _name: &Name) -> Option<&Definition> {
-        None
+    fn definition(&self, name: &Name) -> Option<&Definition> {
+        self.definitions.get(name)
     }
 
     fn rule(&self, name: &Name) -> Option<&Statement> {
@@ -303,61 +326,21 @@ impl Context for Store {
     }
 
     fn has_theory(&self, unit: &Name) -> bool {
-        self.theories.has(unit)
+        self.units.has(unit)
     }
 
-    fn parents(&self, alloc: Global, _unit: &Name) -> Result<Names, NoMemory> {
-        Ok(Names::new(alloc))
+    fn parents(&self, alloc: Global, unit: &Name) -> Result<Names, NoMemory> {
+        self.units.parents(alloc, unit)
     }
 
     fn seen(&self, alloc: Global, unit: &Name) -> Result<Names, NoMemory> {
-        let base = base_name(alloc, b"base")?;
-        let unit = unit.copy(alloc)?;
-        let mut names = Names::new(alloc);
-        match base.cmp(&unit) {
-            Ordering::Less => {
-                names.push(base)?;
-                names.push(unit)?;
-            }
-            Ordering::Equal => names.push(base)?,
-            Ordering::Greater => {
-                names.push(unit)?;
-                names.push(base)?;
-            }
-        }
-        Ok(names)
+        self.units.seen(alloc, unit)
     }
 
     fn own(&self, alloc: Global, unit: &Name) -> Result<Own, NoMemory> {
         Ok(Own {
-            constants: constants_of(alloc, &self.constants, unit)?,
-            axioms: axioms_of(alloc, &self.rules, unit)?,
+            constants: self.constants.with_base_names(alloc, unit)?,
+            axioms: self.rules.axioms(alloc, unit)?,
         })
     }
-}
-
-/// The constants that a unit declares, in byte order.
-fn constants_of(alloc: Global, constants: &Table<ConstDecl>, unit: &Name) -> Result<Names, NoMemory>
-    ensures { IfOk result (λ names. names ≡ names_in (λ declared. pointwise nat_eq declared.theory unit.now) (finite.entries constants.now)) }
-{
-    let mut names = Names::new(alloc);
-    for entry in constants.entries(alloc)? {
-        if entry.1.theory == *unit {
-            names.push(entry.0.copy(alloc)?)?;
-        }
-    }
-    Ok(names)
-}
-
-/// The axioms that a unit states, in byte order.
-fn axioms_of(alloc: Global, rules: &Table<Statement>, unit: &Name) -> Result<Names, NoMemory>
-    ensures { IfOk result (λ names. names ≡ names_in (λ statement. pointwise nat_eq statement.theory unit.now && statement.is_axiom) (finite.entries rules.now)) }
-{
-    let mut names = Names::new(alloc);
-    for entry in rules.entries(alloc)? {
-        if entry.1.theory == *unit && entry.1.is_axiom {
-            names.push(entry.0.copy(alloc)?)?;
-        }
-    }
-    Ok(names)
 }

@@ -4,11 +4,14 @@ use Rattle.mu_status.proofs.Standing.{statuses_are_exact}
 use Rattle.mu_command.specs.Lines.{ReadingIsExact}
 use Rattle.mu_command.proofs.Reading.{reading_is_exact}
 use Rattle.mu_command.proofs.Back.{commands_read_back}
+use Rattle.mu_defs.proofs.DefinitionLemmas.{definition_circles_are_exact}
+use Rattle.mu_defs.proofs.UnitLemmas.{unit_circles_are_exact}
+use Rattle.mu_defs.proofs.UseLemmas.{uses_are_constants}
 use Rattle.mu_flat.proofs.FirstCircle.{circles_are_exact}
 use Rattle.mu_print.proofs.ClaimsBack.{claims_read_back}
 use Rattle.mural.specs.Laws.{Laws}
-use Rattle.mural.proofs.Acyclic.{reached_acyclic}
+use Rattle.mural.proofs.Valid.{reached_valid}
 
 pub laws_hold : Laws
 unfolding ReadingIsExact StatusesAreExact
-laws_hold = record { reading = reading_is_exact; canonical = commands_read_back; claims = claims_read_back; statuses = statuses_are_exact; circles = circles_are_exact; acyclic = reached_acyclic }
+laws_hold = record { reading = reading_is_exact; canonical = commands_read_back; claims = claims_read_back; statuses = statuses_are_exact; parents = unit_circles_are_exact; definitions = definition_circles_are_exact; citations = circles_are_exact; uses = uses_are_constants; valid = reached_valid }

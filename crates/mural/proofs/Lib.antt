@@ -1,4 +1,3 @@
-mod Acyclic
 mod Commands
 mod Ends
 mod Known
@@ -7,3 +6,4 @@ mod PageLemmas
 mod Pieces
 mod Serving
 mod Storable
+mod Valid

@@ -10,10 +10,9 @@ use Rattle.std.specs.Io.KnownBytes.{append_known}
 use Rattle.mural.specs.Lines.{is_line_feed, whole_lines, unfinished, last_line, lines}
 use Rattle.mu_flat.specs.Entries.{Entries, initial}
 use Rattle.mu_tree.specs.declared.refusal.Refusal.TheVariants.{LineTooLong}
-use Rattle.mu_grammar.specs.Lexemes.{items_of}
 use Rattle.mu_command.specs.Canonical.{longest_text}
 use Rattle.mu_command.specs.Lines.{line_read}
-use Rattle.mural.specs.Answers.{Answer, no_command, read_out, answer}
+use Rattle.mural.specs.Answers.{Answer, read_out, answer}
 use Rattle.mural.specs.Replies.{replies, entries_after, told_for, told_bytes, refuses, some_refused}
 use Rattle.mural.specs.Interpreter.{Served, IsFront, TellsFront, kept_length}
 use Rattle.mural.specs.declared.reply.Reply.{Reply}
@@ -31,9 +30,9 @@ entries_after-append entries (x ∷ xs) ys = entries_after-append (answer entrie
 told_bytes-append : (xs ys : List (Option Reply)) → told_bytes (xs ++ ys) ≡ told_bytes xs ++ told_bytes ys
 told_bytes-append = flat_map-append told_for
 
-too_long : (entries : Entries) (line : List ℕ) → longest_text < length line → answer entries line ≡ no_command entries 1
+too_long : (entries : Entries) (line : List ℕ) → longest_text < length line → answer entries line ≡ read_out entries (Err LineTooLong)
 unfolding answer line_read
-too_long entries line lt = ap (read_out entries (items_of line)) (cond-true (nat_lt longest_text (length line)) (Err LineTooLong) _ (lt-ltb longest_text (length line) lt))
+too_long entries line lt = ap (read_out entries) (cond-true (nat_lt longest_text (length line)) (Err LineTooLong) _ (lt-ltb longest_text (length line) lt))
 
 -- a line that is too long is answered by its first bytes alone
 pub answer_kept : (entries : Entries) (line : List ℕ) → answer entries (take kept_length line) ≡ answer entries line

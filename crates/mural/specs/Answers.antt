@@ -1,20 +1,15 @@
 -- The answer to one line: its command carried out on a store, and the reply.
-use Rattle.std.specs.Prelude.{ℕ, Bool, true, false, ◌||◌, ◌&&◌, if◌then◌else◌, List, Option, Some, None, Result, Ok, Err, codes}
-use Rattle.std.specs.Option.{option_map, option_map_or}
+use Rattle.std.specs.Prelude.{ℕ, Bool, true, false, if◌then◌else◌, List, Option, Some, None, Result, Ok, Err}
+use Rattle.std.specs.Option.{option_map}
 use Rattle.std.specs.FinMap as finite
 use Rattle.mu_tree.specs.declared.refusal.Refusal.{Refusal}
-use Rattle.mu_tree.specs.declared.refusal.Refusal.TheVariants.{LineTooLong, Syntax, Limit, Unknown}
-use Rattle.mu_tree.specs.declared.refusal.LimitWord.{LimitWord}
-use Rattle.mu_grammar.specs.Lexemes.{Lexeme, after_first, items_of}
-use Rattle.mu_grammar.specs.Parts.{first_as, starts}
-use Rattle.mu_grammar.specs.SimpleParts.{is_word, name_of}
+use Rattle.mu_tree.specs.declared.refusal.Refusal.TheVariants.{Syntax, Unknown}
 use Rattle.mu_decl.specs.declared.declaration.Statement.{Statement}
-use Rattle.mu_flat.specs.Base.{is_base, is_base_constant}
 use Rattle.mu_flat.specs.Entries.{Entries}
 use Rattle.mu_flat.specs.ProofTables.{proof_at}
 use Rattle.mu_status.specs.Statuses.{status_of}
 use Rattle.mu_command.specs.declared.command.Command.{Command}
-use Rattle.mu_command.specs.declared.command.Command.TheVariants.{Theory, Const, Axiom, Rule, Proof, Line, Box, Cite, Status, ShowRule, ShowProof}
+use Rattle.mu_command.specs.declared.command.Command.TheVariants.{Status, ShowRule, ShowProof, ShowUnit}
 use Rattle.mu_command.specs.Lines.{line_read}
 use Rattle.mu_edit.specs.Changes.{refusal, changed}
 use Rattle.mural.specs.Pages.{proof_page, rule_page, status_page}
@@ -72,32 +67,10 @@ queried entries command = option_map reply_to (asked entries command)
 unfoldable pub step : Entries → Command → Outcome
 step entries command = step_by entries command (queried entries command)
 
--- the command would declare the base theory, or something in it, or one of its constants
-abbrev pub touches_base : Command → Bool
-touches_base (Theory unit) = is_base unit
-touches_base (Const unit name shape result) = is_base unit || is_base_constant name
-touches_base (Axiom unit rule claim) = is_base unit
-touches_base (Rule unit rule claim) = is_base unit
-touches_base _ = false
-
--- the command is of a form that is carried out
-abbrev pub is_carried_out : Command → Bool
-is_carried_out (Theory unit) = true
-is_carried_out (Const unit name shape result) = true
-is_carried_out (Axiom unit rule claim) = true
-is_carried_out (Rule unit rule claim) = true
-is_carried_out (Proof rule proof) = true
-is_carried_out (Line rule proof label block before tree) = true
-is_carried_out (Box rule proof label block before vars assumptions) = true
-is_carried_out (Cite rule proof label why) = true
-is_carried_out (Status rule) = true
-is_carried_out (ShowRule rule) = true
-is_carried_out (ShowProof rule proof) = true
-is_carried_out _ = false
-
--- the command is refused whatever the store holds
+-- the command is of the form that isn't carried out yet
 abbrev pub is_barred : Command → Bool
-is_barred command = touches_base command || (if is_carried_out command then false else true)
+is_barred (ShowUnit unit) = true
+is_barred _ = false
 
 -- what a line leads to: no reply where it is quiet
 pub record Answer : Type 0 where
@@ -112,35 +85,16 @@ no_command entries column = record { entries = entries; reply = Some (Refused (S
 abbrev pub answered : Outcome → Answer
 answered outcome = record { entries = outcome.entries; reply = Some outcome.reply }
 
--- No command declares the base theory or changes it, and not every form is carried out.
+-- not every form is carried out
 abbrev pub carry_out : Entries → Command → Answer
 carry_out entries command = if is_barred command then no_command entries 1 else answered (step entries command)
 
--- the first token is the word of a form that declares something in a theory, which follows
-abbrev pub declares : List Lexeme → Bool
-declares ts =
-    starts (is_word (codes "theory")) ts || (starts (is_word (codes "const")) ts || (starts (is_word (codes "axiom")) ts || starts (is_word (codes "rule")) ts))
-
--- the first token names a constant of the base theory
-abbrev pub names_base_constant : List Lexeme → Bool
-names_base_constant ts = option_map_or is_base_constant (first_as name_of ts) false
-
--- the tokens of a command begin as those of one that touches the base theory: this is the theory, or a constant of it is to be declared
-abbrev pub begins_in_base : List Lexeme → Bool
-begins_in_base ts = declares ts && (starts (is_word (codes "base")) (after_first ts) || (starts (is_word (codes "const")) ts && names_base_constant (after_first (after_first ts))))
-
--- a command that passes a limit is refused for it, unless it touches the base theory
-abbrev pub past_limit : Entries → List Lexeme → LimitWord → Answer
-past_limit entries ts word = if begins_in_base ts then no_command entries 1 else record { entries = entries; reply = Some (Refused (Limit word)) }
-
 -- the answer to a line that is read so
-abbrev pub read_out : Entries → List Lexeme → Result (Option Command) Refusal → Answer
-read_out entries ts (Ok None) = record { entries = entries; reply = None }
-read_out entries ts (Ok (Some command)) = carry_out entries command
-read_out entries ts (Err LineTooLong) = no_command entries 1
-read_out entries ts (Err (Limit word)) = past_limit entries ts word
-read_out entries ts (Err refused) = record { entries = entries; reply = Some (Refused refused) }
+abbrev pub read_out : Entries → Result (Option Command) Refusal → Answer
+read_out entries (Ok None) = record { entries = entries; reply = None }
+read_out entries (Ok (Some command)) = carry_out entries command
+read_out entries (Err refused) = record { entries = entries; reply = Some (Refused refused) }
 
 -- the answer to a line
 unfoldable pub answer : Entries → List ℕ → Answer
-answer entries line = read_out entries (items_of line) (line_read line)
+answer entries line = read_out entries (line_read line)

@@ -1,8 +1,9 @@
 -- What holds of the definitions that the replies are stated by.
 use Rattle.std.specs.Prelude.{◌≡◌, ℕ, List}
-use Rattle.mu_graph.specs.Circles.{IsAcyclic}
-use Rattle.mu_flat.specs.ProofTables.{leads}
-use Rattle.mu_flat.specs.Entries.{initial}
+use Rattle.mu_defs.specs.DefinitionTables.{DefinitionCirclesAreExact}
+use Rattle.mu_defs.specs.Units.{UnitCirclesAreExact}
+use Rattle.mu_defs.specs.Uses.{UsesAreConstants}
+use Rattle.mu_flat.specs.Entries.{IsValid, initial}
 use Rattle.mu_flat.specs.Circles.{CirclesAreExact}
 use Rattle.mu_status.specs.Statuses.{AreStatuses}
 use Rattle.mu_command.specs.Language.{CommandsReadBack}
@@ -20,7 +21,11 @@ pub record Laws : Type 0 where
   pub claims : ClaimsReadBack
   -- the status that is told of a rule is the one that fits, and what is established rests on axioms alone
   pub statuses : AreStatuses
-  -- the name that a refusal for a circle tells is the first in byte order that leads back to itself
-  pub circles : CirclesAreExact
-  -- after any lines no rule leads back to itself by what its proofs cite
-  pub acyclic : (lines : List (List ℕ)) → IsAcyclic (leads (entries_after initial lines).proofs)
+  -- the name that a refusal for a circle tells is the first in byte order that leads back to itself: a theory by parents, a constant by definitions, a rule by citations
+  pub parents : UnitCirclesAreExact
+  pub definitions : DefinitionCirclesAreExact
+  pub citations : CirclesAreExact
+  -- what a definition leads to is the constants in it that no variable hides
+  pub uses : UsesAreConstants
+  -- after any lines the store is valid: nothing leads back to itself, what is named as a container is there, and there is no more of each than there may be
+  pub valid : (lines : List (List ℕ)) → IsValid (entries_after initial lines)

@@ -1,11 +1,9 @@
-ghost use Rattle.std.specs.Prelude.{◌≡◌, false, Some, Err, IfOk, OnErr};
+ghost use Rattle.std.specs.Prelude.{◌≡◌, Some, IfOk, OnErr};
 ghost use Rattle.std.specs.Option.{option_map};
 ghost use Rattle.mu_command.specs.Language.{IsCommand};
-ghost use Rattle.mu_flat.specs.Entries.{Entries};
-ghost use Rattle.mu_grammar.specs.Lexemes.{items, items_of};
 ghost use Rattle.mu_edit.specs.Changes.{refusal};
 ghost use Rattle.mu_status.specs.Statuses.{status_of};
-ghost use Rattle.mural.specs.Answers.{answer, begins_in_base, carry_out, declares as declaring_test, is_barred as bar_test, is_carried_out as form_test, names_base_constant as base_name_test, outcome, page, past_limit, queried, read_out, reply_to, rule_pages, touches_base as base_test};
+ghost use Rattle.mural.specs.Answers.{answer, carry_out, is_barred as bar_test, outcome, page, queried, reply_to, rule_pages};
 ghost use Rattle.mural.specs.Pages.{proof_page};
 ghost use Rattle.mu_flat.specs.ProofTables.{proof_at};
 
@@ -14,13 +12,10 @@ use crate::reply::Reply;
 use mu_command::{Command, LineFault, read_line};
 use mu_decl::{Context, Statement};
 use mu_edit::apply;
-use mu_flat::{EditFault, Store, is_base, is_base_constant};
-use mu_grammar::Token;
+use mu_flat::{EditFault, Store};
 use mu_status::{RuleStatus, status};
 use mu_tables::Work;
-use mu_text::parts::{name_bytes, sees_word};
-use mu_text::{Reader, Tokens};
-use mu_tree::{Bytes, LimitWord, Name, NoMemory, Refusal};
+use mu_tree::{Bytes, Name, NoMemory, Refusal};
 use std::alloc::Global;
 
 /// Answers a line: with no reply where it is blank or a comment, and else by carrying out its command.
@@ -40,82 +35,8 @@ pub(crate) fn answer_line(
     match read_line(alloc, line) {
         Ok(None) => Ok(None),
         Ok(Some(command)) => Ok(Some(carry_out(alloc, store, command)?)),
-        Err(LineFault::Refused(refused)) => Ok(Some(no_line(alloc, line, refused)?)),
+        Err(LineFault::Refused(refused)) => Ok(Some(Reply::Refused(refused))),
         Err(LineFault::NoMemory) => Err(NoMemory),
-    }
-}
-
-/// The reply to a line that is refused as it is read.
-///
-/// # Errors
-///
-/// `NoMemory`.
-fn no_line(alloc: Global, line: &[u8], refused: Refusal) -> Result<Reply, NoMemory>
-    ensures { IfOk result (λ reply. (entries : Entries) → read_out entries (items_of line.now) (Err refused) ≡ record { entries = entries; reply = Some reply }) }
-{
-    match refused {
-        Refusal::LineTooLong => Ok(no_command(1)),
-        Refusal::Limit(word) => past_limit(alloc, line, word),
-        _ => Ok(Reply::Refused(refused)),
-    }
-}
-
-/// The reply to a line that reads as no command.
-fn no_command(column: u32) -> Reply
-    ensures { result ≡ Reply.Refused (Refusal.Syntax column) }
-{
-    Reply::Refused(Refusal::Syntax(column))
-}
-
-/// The reply to a command that passes a limit.
-///
-/// # Errors
-///
-/// `NoMemory`.
-fn past_limit(alloc: Global, line: &[u8], word: LimitWord) -> Result<Reply, NoMemory>
-    ensures { IfOk result (λ reply. (entries : Entries) → past_limit entries (items_of line.now) word ≡ record { entries = entries; reply = Some reply }) }
-{
-    let tokens = Tokens::read(alloc, line)?;
-    if begins_in_base(line, tokens.items()) {
-        return Ok(no_command(1));
-    }
-    Ok(Reply::Refused(Refusal::Limit(word)))
-}
-
-/// Whether a command of the line's tokens touches the base theory.
-fn begins_in_base(line: &[u8], tokens: &[Token]) -> bool
-    ensures { result ≡ begins_in_base (items line.now tokens.now) }
-{
-    let mut reader = Reader::new(line, tokens);
-    let is_constant = sees_word(&reader, b"const");
-    if !declares(&reader) {
-        return false;
-    }
-    reader.skip();
-    if sees_word(&reader, b"base") {
-        return true;
-    }
-    reader.skip();
-    is_constant && names_base_constant(&reader)
-}
-
-/// Whether the first token is the word of a form that declares something in a theory, which follows.
-fn declares(reader: &Reader) -> bool
-    ensures { result ≡ declaring_test reader.now }
-{
-    sees_word(reader, b"theory")
-        || sees_word(reader, b"const")
-        || sees_word(reader, b"axiom")
-        || sees_word(reader, b"rule")
-}
-
-/// Whether the first token names a constant of the base theory.
-fn names_base_constant(reader: &Reader) -> bool
-    ensures { result ≡ base_name_test reader.now }
-{
-    match name_bytes(reader) {
-        Some(text) => is_base_constant(text),
-        None => false,
     }
 }
 
@@ -132,7 +53,7 @@ fn carry_out(alloc: Global, store: &mut Store, command: Command) -> Result<Reply
 {
     if is_barred(&command) {
         discard(command);
-        return Ok(no_command(1));
+        return Ok(Reply::Refused(Refusal::Syntax(1)));
     }
     match query(alloc, store, &command) {
         Ok(None) => change_store(alloc, store, command),
@@ -173,8 +94,7 @@ fn query(alloc: Global, store: &Store, command: &Command) -> Result<Option<Reply
 ///
 /// `NoMemory` leaves the store as it was.
 fn change_store(alloc: Global, store: &mut Store, command: Command) -> Result<Reply, NoMemory>
-    requires language { IsCommand command }
-    requires free { bar_test command ≡ false }
+    requires { IsCommand command }
     ensures ok { IfOk result (λ reply. outcome store.old command (refusal store.old command) ≡ record { entries = store.new; reply = reply }) }
     ensures err { OnErr result (store.new ≡ store.old) }
 {
@@ -185,45 +105,11 @@ fn change_store(alloc: Global, store: &mut Store, command: Command) -> Result<Re
     }
 }
 
-/// Whether the command is refused whatever the store holds.
+/// Whether the command is of the form that isn't carried out yet.
 fn is_barred(command: &Command) -> bool
     ensures { result ≡ bar_test command.now }
 {
-    touches_base(command) || !is_carried_out(command)
-}
-
-/// Whether the command is of a form that is carried out.
-fn is_carried_out(command: &Command) -> bool
-    ensures { result ≡ form_test command.now }
-{
-    match command {
-        Command::Theory(_)
-        | Command::Const(_, _, _, _)
-        | Command::Axiom(_, _, _)
-        | Command::Rule(_, _, _)
-        | Command::Proof(_, _)
-        | Command::Line(_, _, _, _, _, _)
-        | Command::Box(_, _, _, _, _, _, _)
-        | Command::Cite(_, _, _, _)
-        | Command::Status(_)
-        | Command::ShowRule(_)
-        | Command::ShowProof(_, _) => true,
-        _ => false,
-    }
-}
-
-/// Whether the command would declare the base theory, or something in it, or one of its constants.
-fn touches_base(command: &Command) -> bool
-    ensures { result ≡ base_test command.now }
-{
-    match command {
-        Command::Theory(unit) => is_base(unit.bytes()),
-        Command::Const(unit, name, _, _) => {
-            is_base(unit.bytes()) || is_base_constant(name.bytes())
-        }
-        Command::Axiom(unit, _, _) | Command::Rule(unit, _, _) => is_base(unit.bytes()),
-        _ => false,
-    }
+    matches!(command, Command::ShowUnit(_))
 }
 
 /// What is known of a rule: its whole page, or its status.

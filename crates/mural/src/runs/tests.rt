@@ -1,6 +1,7 @@
 mod boxes;
 mod calls;
 mod examples;
+mod forms;
 mod pages;
 mod reasons;
 mod transcripts;

@@ -1,21 +1,16 @@
-use Rattle.std.proofs.Common.{◌≡◌, ◌∙◌, [], ap}
-use Rattle.std.specs.FinMap as finite
-use Rattle.std.proofs.lemmas.Result.{on_ok_weaker, on_err_weaker}
-use Rattle.mu_flat.specs.ProofTables.{with_proof}
-use Rattle.mu_flat.proofs.ProofTables.{left_alone, where_lent, own_is}
+use Rattle.std.proofs.Common.{arith, ◌≡◌, ◌<◌, ◌+◌, refl, sym, subst, None}
+use Rattle.mu_flat.specs.KeptProofs.{IsKept}
+use Rattle.mu_flat.specs.ProofTables.{ProofsOf, proof_at, count_proofs}
+use Rattle.mu_flat.proofs.ProofKeeping.{kept_added}
 use Rattle.mu_flat.proofs.proof_tables.ProofTable.add.Goals as goal
 
--- what is lent stands at the rule afterwards
-written : (c : goal.After-drop-rule-inside) → c.get_mut.follows.lender c.put.new.self ≡ finite.insert c.self.inside.by_rule c.args.rule c.put.new.self
-written c = where_lent c.get_mut.result c.in-Some.proofs c.in-Some.is (c.get_mut.follows.holds c.put.new.self)
+pub overflow_add-self : goal.overflow_add-self
+overflow_add-self c =
+    let room : count_proofs c.self.inside.by_rule < 65536 = subst (λ (proofs : ProofsOf). count_proofs proofs < 65536) (sym c.self.view_is) c.requires.room in
+    let count = c.self.invariant.count in
+    omega (arith, room, count)
 
-pub returns-in-Some-clause-ok : goal.returns-in-Some-clause-ok
-returns-in-Some-clause-ok c = on_ok_weaker c.put.result (λ put.
-    written c
-    ∙ ap (finite.insert c.self.inside.by_rule c.args.rule) (put ∙ ap (finite.insert c.in-Some.proofs.now c.args.proof) c.new.ensures)
-    ∙ ap (λ own. finite.insert c.self.inside.by_rule c.args.rule (finite.insert own c.args.proof [])) (own_is c.self.inside.by_rule c.args.rule c.args.proof c.in-Some.proofs.now c.in-Some.ensures.value)
-    ∙ ap (λ proofs. with_proof proofs c.args.rule c.args.proof []) c.self.view_is) c.put.ensures.ok
-
-pub returns-in-Some-clause-err : goal.returns-in-Some-clause-err
-returns-in-Some-clause-err c = on_err_weaker c.put.result (λ kept.
-    left_alone c.self.inside.by_rule (c.get_mut.follows.lender c.put.new.self) c.args.rule c.in-Some.proofs.now c.put.new.self c.in-Some.ensures.value (written c) kept ∙ c.self.view_is) c.put.ensures.err
+pub invariant_of-self-2 : goal.invariant_of-self-2
+invariant_of-self-2 c = subst (λ (proofs : ProofsOf). IsKept (record c.self.inside { by_rule = proofs; count = c.self.inside.count + 1 })) (sym c.in_ok-add_in.ensures.ok)
+    (kept_added c.self.inside c.self.invariant c.args.rule c.args.proof c.requires.plain (subst (λ (proofs : ProofsOf). proof_at proofs c.args.rule c.args.proof ≡ None) (sym c.self.view_is) c.requires.new)
+    (subst (λ (proofs : ProofsOf). count_proofs proofs < 65536) (sym c.self.view_is) c.requires.room) (c.self.inside.count + 1) refl)

@@ -1,6 +1,10 @@
-use Rattle.std.proofs.Common.{sym, ◌∙◌}
-use Rattle.mu_flat.specs.Contexts.{parents_none}
+use Rattle.std.proofs.Common.{◌≡◌, ◌∙◌, refl, ap, subst, ℕ, List}
+use Rattle.std.specs.Prelude.{IfOk}
+use Rattle.mu_graph.specs.Names.{led_by, members}
+use Rattle.mu_defs.proofs.SightLemmas.{parents_listed}
+use Rattle.mu_flat.specs.Entries.{Entries, world_of}
 use Rattle.mu_flat.proofs.stores.StoreContext.parents.Goals as goal
 
 pub returns : goal.returns
-returns c = c.new.ensures ∙ sym (parents_none c.args.self.now c.args._unit.now)
+returns c = subst (λ (parents : List (List ℕ)). IfOk c.parents.result (λ names. names ≡ parents))
+    (ap (λ (e : Entries). led_by members e.units c.args.unit.now) c.self.view_is ∙ parents_listed (world_of c.args.self.now) c.args.self.now.units refl c.args.unit.now) c.parents.ensures

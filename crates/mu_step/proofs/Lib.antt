@@ -1,3 +1,0 @@
-pub mod RepeatLemmas
-pub mod TestLemmas
-pub mod Valid

@@ -1,5 +1,0 @@
-use Rattle.mu_step.proofs.TestLemmas.{empty_unit}
-use Rattle.mu_step.proofs.dropping.drop_unit.Goals as goal
-
-pub take_unit-requires : goal.take_unit-requires
-take_unit-requires c = empty_unit c.args.store.now c.args.unit.now c.in_ok-permit_no_unit.ensures.empty

@@ -1,4 +1,0 @@
-pub mod Changes
-pub mod Distinct
-pub mod Repeats
-pub mod Storable

@@ -1,6 +1,0 @@
-use Rattle.std.proofs.Common.{subst}
-use Rattle.mu_store.specs.Entries.{IsValid}
-use Rattle.mu_store.proofs.stores.Store.constants.Goals as goal
-
-pub returns-clause-valid : goal.returns-clause-valid
-returns-clause-valid c = subst IsValid c.self.view_is c.self.invariant.valid
