@@ -1,3 +1,4 @@
+ghost use Rattle.std.specs.Prelude.{◌≡◌};
 ghost use Rattle.mu_proof.specs.declared.citations.Cited.TheVariants.{Rule};
 ghost use Rattle.mu_flat.specs.CitedSets.{is_marked, told_name, rules_tell};
 
@@ -11,6 +12,15 @@ use std::alloc::Global;
 pub struct CitedSet {
     rules: NameSet,
     morphisms: NameSet,
+}
+
+impl CitedSet {
+    /// Whether the set has a rule.
+    pub fn has_rule(&self, name: &Name) -> bool
+        ensures { result ≡ is_marked self.now.rules self.now.morphisms (Rule name.now) }
+    {
+        self.rules.has(name)
+    }
 }
 
 impl KeySet for CitedSet {
