@@ -66,8 +66,8 @@ refused syntax 8
 refused syntax 17
 refused syntax 21
 refused syntax 27
-refused syntax 1
-refused syntax 1
+refused builtin base
+refused builtin true
 refused taken prop
 refused unknown nope
 refused taken p
