@@ -31,7 +31,7 @@ rule a r : p => q
 alter rule r : p
 > proof r.s  m
 proof r.s m
-> line r m l  in root  before k:forall{x:T.p}
+> line r m l  in root  before k:forall{x:T .p}
 line r m l in root before k : forall{x:T. p}
 > box r m b in root:x:T,y:U|p(x),q
 box r m b in root : x:T, y:U | p(x), q

@@ -36,7 +36,7 @@ refused syntax 10
 > theory t.u
 refused syntax 8
 > theory base
-refused syntax 1
+refused builtin base
 > theory theory
 ok
 > theorem t
@@ -50,11 +50,11 @@ refused syntax 14
 > const t q->e
 ok
 > const base r -> e
-refused syntax 1
+refused builtin base
 > const t and -> e
-refused syntax 1
+refused builtin and
 > const t true -> e
-refused syntax 1
+refused builtin true
 > const t r -> k
 refused syntax 14
 > const nope r -> e
@@ -116,7 +116,7 @@ refused syntax 9
 > axiom nope a : p
 refused unknown nope
 > axiom base i : true
-refused syntax 1
+refused builtin base
 > axiom t and : false
 ok
 > axiom t i : p q
@@ -194,7 +194,7 @@ refused syntax 11
 > rule nope x : p
 refused unknown nope
 > rule base x : p
-refused syntax 1
+refused builtin base
 > status r1
 r1 rule unproved
 > proof r1 m

@@ -389,11 +389,11 @@ ok
 > const t t(t, e) -> e
 ok
 > const t true{e} -> e
-refused syntax 1
+refused builtin true
 > const t forall{e} -> e
-refused syntax 1
+refused builtin forall
 > const base X{t} -> t
-refused syntax 1
+refused builtin base
 > const nope X{t} -> t
 refused unknown nope
 > const t B -> e
@@ -458,7 +458,7 @@ a7 axiom established
 a8 axiom ill-formed
 ";
 
-/// Segments of 64 and of 65 bytes: syntax goes before the limit, and the base theory before both.
+/// Segments of 64 and of 65 bytes: syntax goes before the limit, and this before all else.
 const LONG_NAMES: &[u8] = b"\
 > theory aaaaaaaaaaaaaaaaaaaaaaaaaaaaaaaaaaaaaaaaaaaaaaaaaaaaaaaaaaaaaaaa
 ok
@@ -495,19 +495,19 @@ refused limit name
 > aaaaaaaaaaaaaaaaaaaaaaaaaaaaaaaaaaaaaaaaaaaaaaaaaaaaaaaaaaaaaaaaa b
 refused syntax 1
 > axiom base b : aaaaaaaaaaaaaaaaaaaaaaaaaaaaaaaaaaaaaaaaaaaaaaaaaaaaaaaaaaaaaaaaa
-refused syntax 1
+refused limit name
 > rule base aaaaaaaaaaaaaaaaaaaaaaaaaaaaaaaaaaaaaaaaaaaaaaaaaaaaaaaaaaaaaaaaa : p
-refused syntax 1
+refused limit name
 > const base aaaaaaaaaaaaaaaaaaaaaaaaaaaaaaaaaaaaaaaaaaaaaaaaaaaaaaaaaaaaaaaaa -> e
-refused syntax 1
+refused limit name
 > const aaaaaaaaaaaaaaaaaaaaaaaaaaaaaaaaaaaaaaaaaaaaaaaaaaaaaaaaaaaaaaaaa and -> e
-refused syntax 1
+refused limit name
 > const aaaaaaaaaaaaaaaaaaaaaaaaaaaaaaaaaaaaaaaaaaaaaaaaaaaaaaaaaaaaaaaaa ands -> e
 refused limit name
 > proof base aaaaaaaaaaaaaaaaaaaaaaaaaaaaaaaaaaaaaaaaaaaaaaaaaaaaaaaaaaaaaaaaa
 refused limit name
 > theory base
-refused syntax 1
+refused builtin base
 ";
 
 /// A conjunction is turned round.
