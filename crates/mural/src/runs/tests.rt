@@ -1,5 +1,6 @@
 mod boxes;
 mod calls;
+mod edits;
 mod examples;
 mod forms;
 mod pages;
@@ -9,6 +10,7 @@ mod trees;
 
 use super::*;
 use boxes::boxes;
+use edits::edits;
 use examples::{examples, first};
 use mu_outside::{Desk, Faults};
 use mu_tree::{Bytes, NoMemory, Numbers};
@@ -163,6 +165,7 @@ fn answers_as_in_the_transcripts(rt: HostRuntime) -> Result<(), Fail> {
         None,
         "transcripts on reasons"
     );
+    assert_eq!(rt; first_wrong(alloc, &edits())?, None, "transcripts on edits");
     Ok(())
 }
 
