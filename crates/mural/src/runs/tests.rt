@@ -3,6 +3,7 @@ mod calls;
 mod edits;
 mod examples;
 mod forms;
+mod limits;
 mod pages;
 mod reasons;
 mod transcripts;

@@ -357,11 +357,11 @@ refused unknown nope
 > cite r m b : rule hold
 refused unknown b
 > cite r m l : rule hold with ?m := p; ?m := p
-refused taken m
+refused taken ?m
 > cite r m l : rule hold with ?m[x, y, x] := p
 refused taken x
 > cite r m l : rule hold with ?m[x, x] := p; ?n := p; ?m := p
-refused taken m
+refused taken ?m
 > cite r m l : rule hold
 ok
 > unjustify r m nope
@@ -377,7 +377,7 @@ refused unknown l
 > cite r m l : rule hold
 ok
 > show proof r m
-proof r m fault c unfinished
+proof r m fault in_c no-justification
 box b : | p
   box c : |
     in_c : p by nothing
@@ -402,7 +402,7 @@ ok
 > move r m k to c before in_c
 ok
 > show proof r m
-proof r m fault b unfinished
+proof r m fault in_b no-justification
 box b : | p
   in_b : x by nothing
 box c : |
@@ -469,13 +469,13 @@ ok
 > cite later m l : rule r
 refused circle later
 > cite later m l : rule nope with ?m := p; ?m := p
-refused taken m
+refused taken ?m
 > drop rule s
 ok
 > cite later m l : rule r
 refused circle later
 > status r
-r rule complete
+r rule incomplete
 > drop proof s n
 ok
 > cite later m l : rule r
