@@ -8,11 +8,14 @@ use Rattle.mu_tree.specs.Maps.{MapOf}
 use Rattle.mu_tree.specs.declared.refusal.CountWord.{CountWord}
 use Rattle.mu_tree.specs.declared.refusal.Refusal.{Refusal}
 use Rattle.mu_tree.specs.declared.refusal.Refusal.TheVariants.{Circle, TooMany}
+use Rattle.mu_tree.specs.declared.why.Why.{Why}
 use Rattle.mu_defs.specs.Owned.{is_used, IsUnused}
 use Rattle.mu_defs.specs.declared.fault.CircleFault.{CircleFault}
 use Rattle.mu_defs.specs.declared.fault.CircleFault.TheVariants as circle
 use Rattle.mu_defs.proofs.OwnedLemmas.{unused_exact}
+use Rattle.mu_flat.specs.Edits.{circle_refusal, line_refusal}
 use Rattle.mu_flat.specs.Entries.{Entries}
+use Rattle.mu_flat.specs.ProofTables.{ProofsOf}
 use Rattle.mu_flat.specs.Stores.{IsEmptyUnit}
 use Rattle.mu_flat.specs.declared.edits.EditFault.{EditFault}
 use Rattle.mu_flat.specs.declared.edits.EditFault.TheVariants as fault
@@ -90,7 +93,19 @@ pub next_test : (passed reason : Option Refusal) (result : Result (Unit {0}) Edi
 next_test None reason result none is = is
 next_test (Some refused) reason result none is = cc
 
+-- a reason is cited to a line that is there where that closes no circle
+pub cite_tested : (proofs : ProofsOf) (rule proof label : List ℕ) (why : Why) (result : Result (Unit {0}) EditFault) → line_refusal proofs rule proof label ≡ None
+    → OnOk result ((p l : List ℕ) → line_refusal proofs rule p l ≡ None → circle_refusal proofs rule p l why ≡ None)
+    → IfErr result (λ blame. (refused : Refusal) → blame ≡ fault.Refused refused → (p l : List ℕ) → line_refusal proofs rule p l ≡ None → circle_refusal proofs rule p l why ≡ Some refused)
+    → Tests (circle_refusal proofs rule proof label why) result
+cite_tested proofs rule proof label why (Ok done) there ok err = ok proof label there
+cite_tested proofs rule proof label why (Err (fault.Refused refused)) there ok err = err refused refl proof label there
+cite_tested proofs rule proof label why (Err fault.NoMemory) there ok err = tt
+
 -- where two tests refuse nothing, what comes after them counts
+pub tested_so : (a b last : Option Refusal) (result : Result (Unit {0}) EditFault) → a ≡ None → b ≡ None → Tests last result → Tests (option_or a (option_or b (option_or last None))) result
+tested_so a b last result first_none none is = next_test a _ result first_none (next_test b _ result none (last_test last result is))
+
 pub done_so : (e new after : Entries) (a b last : Option Refusal) (result : Result (Unit {0}) EditFault) → a ≡ None → b ≡ None → Does e new last after result → Does e new (option_or a (option_or b (option_or last None))) after result
 done_so e new after None None None (Ok done) first_none none is = is
 done_so e new after None None (Some r) (Ok done) first_none none is = is
@@ -109,3 +124,8 @@ err_given (Err y) P Q given f = f y given.1
 pub blame_so : (e after : Entries) (reason : Option Refusal) (y blame : EditFault) → y ≡ blame → ((refused : Refusal) → blame ≡ fault.Refused refused → reason ≡ Some refused) → Does e e reason after (Err y)
 blame_so e after reason (fault.Refused refused) blame same tested = (tested refused (sym same), refl)
 blame_so e after reason fault.NoMemory blame same tested = refl
+
+-- and one of what tells of a test
+pub tested_blame : (reason : Option Refusal) (y blame : EditFault) → y ≡ blame → ((refused : Refusal) → blame ≡ fault.Refused refused → reason ≡ Some refused) → Tests reason (Err y)
+tested_blame reason (fault.Refused refused) blame same tested = tested refused (sym same)
+tested_blame reason fault.NoMemory blame same tested = tt

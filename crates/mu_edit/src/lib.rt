@@ -7,7 +7,9 @@ mod distinct;
 mod dropping;
 mod permits;
 mod proving;
+mod refusals;
 mod refusing;
 mod repeats;
 
 pub use changes::apply;
+pub use refusals::refusal;

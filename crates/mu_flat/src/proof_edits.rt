@@ -6,7 +6,7 @@ ghost use Rattle.mu_proof.specs.Proofs.{remove_fault};
 ghost use Rattle.mu_flat.specs.ProofEdits.{fault_of, has_reason, made, item_at, moving, moving_fault, reason_fault};
 
 use mu_proof::{Item, Proof, ProofFault};
-use mu_tree::{Name, Tree, Trees, TypedVars};
+use mu_tree::{Name, NoMemory, Tree, Trees, TypedVars};
 use std::alloc::Global;
 
 /// An edit of a proof that brings no citation into it.
@@ -79,6 +79,28 @@ pub(crate) fn edit_proof(
         } => move_item(alloc, proof, &label, &block, before.as_ref()),
         ProofEdit::ClearReason { label } => clear_reason(alloc, proof, &label),
         ProofEdit::Remove { label } => remove_item(alloc, proof, &label),
+    }
+}
+
+/// Tells the first fault of an edit of a proof, and leaves the proof: the edit is made in a copy.
+///
+/// # Errors
+///
+/// The first fault of the edit that fits. `NoMemory` may come at any call.
+pub(crate) fn try_edit_proof(
+    alloc: Global,
+    proof: &Proof,
+    edit: ProofEdit,
+) -> Result<(), ProofFault>
+    ensures ok { OnOk result (fault_of edit proof.now ≡ None) }
+    ensures fault { IfErr result (λ fault. fault ≢ ProofFault.NoMemory → fault_of edit proof.now ≡ Some fault) }
+{
+    match proof.copy(alloc) {
+        Ok(mut changed) => edit_proof(alloc, &mut changed, edit),
+        Err(NoMemory) => {
+            drop(edit);
+            Err(ProofFault::NoMemory)
+        }
     }
 }
 

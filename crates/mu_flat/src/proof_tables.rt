@@ -16,7 +16,7 @@ use crate::circles::first_circle;
 use crate::cited_sets::CitedSet;
 use crate::citer_tables::CiterTable;
 use crate::edits::{EditFault, unknown};
-use crate::proof_edits::{ProofEdit, edit_proof};
+use crate::proof_edits::{ProofEdit, edit_proof, try_edit_proof};
 use mu_graph::Edges;
 use mu_proof::{Cited, Item, Proof, cites};
 use mu_tree::{Name, Names, NoMemory, Refusal, Table, Why};
@@ -217,6 +217,29 @@ impl ProofTable {
         edit_in(alloc, &mut self.by_rule, rule, proof, edit)
     }
 
+    /// Tells whether an edit can be made in a proof, and leaves the proofs.
+    ///
+    /// # Errors
+    ///
+    /// `Refused` as `edit` would be. `NoMemory` may come at any call.
+    pub fn try_edit(
+        &self,
+        alloc: Global,
+        rule: &Name,
+        proof: &Name,
+        edit: ProofEdit,
+    ) -> Result<(), EditFault>
+        ensures ok { OnOk result (edit_refusal self.now rule.now proof.now edit ≡ None) }
+        ensures fault { IfErr result (λ fault. (refusal : RefusalOf) → fault ≡ EditFault.Refused refusal → edit_refusal self.now rule.now proof.now edit ≡ Some refusal) }
+    {
+        let Some(found) = self.find(rule, proof) else {
+            drop(edit);
+            return Err(unknown(alloc, proof));
+        };
+        try_edit_proof(alloc, found, edit)?;
+        Ok(())
+    }
+
     /// Cites a line of a proof to a reason, in place of the one that it had.
     ///
     /// # Errors
@@ -247,7 +270,11 @@ impl ProofTable {
     }
 
     /// Tells whether no rule leads back to itself where a line of some proof of a rule gets a reason.
-    fn permit_reason(&self, alloc: Global, rule: &Name, why: &Why) -> Result<(), EditFault>
+    ///
+    /// # Errors
+    ///
+    /// `Refused` where some rule would lead back to itself, with the first of them. `NoMemory` may come at any call.
+    pub fn permit_reason(&self, alloc: Global, rule: &Name, why: &Why) -> Result<(), EditFault>
         ensures ok { OnOk result ((proof label : List ℕ) → line_refusal self.now rule.now proof label ≡ None → circle_refusal self.now rule.now proof label why.now ≡ None) }
         ensures fault { IfErr result (λ fault. (refusal : RefusalOf) → fault ≡ EditFault.Refused refusal → (proof label : List ℕ) → line_refusal self.now rule.now proof label ≡ None → circle_refusal self.now rule.now proof label why.now ≡ Some refusal) }
     {
