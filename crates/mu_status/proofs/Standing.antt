@@ -20,6 +20,8 @@ use Rattle.mu_flat.specs.ProofTables.{proofs_of, proof_at}
 use Rattle.mu_flat.specs.Entries.{Entries, world_of}
 use Rattle.mu_status.specs.Derivations.{is_well_formed, HasProof, HasCheckedProof, MemberMayFollow, IsEstablished, HoldsByRules}
 use Rattle.mu_status.specs.Statuses.{SomeChecks, HasStatus, checks, formed_ways, rule_ways, ways, is_established, status_by_proofs, status_of, StatusesAreExact}
+use Rattle.mu_status.specs.Books.{Knows}
+use Rattle.mu_status.specs.declared.books.Standing.{Standing}
 use Rattle.mu_status.specs.declared.statuses.RuleStatus.{RuleStatus}
 use Rattle.mu_status.specs.declared.statuses.RuleStatus.TheVariants.{IllFormed, Established, Complete, Incomplete, Unproved}
 
@@ -250,6 +252,39 @@ module _ (e : Entries) where
       go : (b : Bool) → IsTrue b ↔ (own ≡ []) → own ≡ kept → not b ≡ list_any (checks e rule) (entries e rule)
       go true both same = sym (none_kept (checks e rule) (λ entry. cites entry.1) (entries e rule) (sym same ∙ both.0 refl))
       go false both same = sym (some_kept (checks e rule) (λ entry. cites entry.1) (entries e rule) (λ none. false≢true (both.1 (same ∙ none))))
+
+  -- ---- what is kept of a rule
+  -- an established rule is well formed
+  established_formed : (rule : List ℕ) (s : Statement) → finite.get e.rules rule ≡ Some s → IsEstablished e rule → is_well_formed e s ≡ true
+  established_formed rule s is est = rests_on IsFormed record {
+    of_axiom = λ q stated at formed holds. all_formed q stated at formed;
+    of_proof = λ q stated items at formed wants right all. all_formed q stated at formed;
+  } rule est s is
+    where
+      IsFormed : Cited → Type 0
+      IsFormed (Rule q) = (stated : Statement) → finite.get e.rules q ≡ Some stated → is_well_formed e stated ≡ true
+      IsFormed (Morphism m) = Unit {0}
+
+      all_formed : (q : List ℕ) (stated : Statement) → finite.get e.rules q ≡ Some stated → is_well_formed e stated ≡ true → IsFormed (Rule q)
+      all_formed q stated at formed other there = subst (λ each. is_well_formed e each ≡ true) (one_statement (sym at ∙ there)) formed
+        where
+          one_statement : {x y : Statement} → Some x ≡ Some y → x ≡ y
+          one_statement same = cc
+
+  -- what is kept of a well-formed rule
+  pub knows_formed : (rule : List ℕ) (s : Statement) (known : Standing) (empty : Bool) → finite.get e.rules rule ≡ Some s → is_well_formed e s ≡ true → known.ways ≡ formed_ways e rule s → IsTrue empty ↔ (known.ways ≡ [])
+      → (not empty ≡ list_any (checks e rule) (entries e rule) → known.otherwise ≡ status_by_proofs e rule (entries e rule)) → Knows e rule s known
+  knows_formed rule s known empty is formed kept none told = record {
+    kept = kept ∙ sym (cond-true (is_well_formed e s) (formed_ways e rule s) [] formed);
+    otherwise = λ underived. told (ways_known rule s is formed underived known.ways empty kept none) ∙ sym (status_without rule s formed underived);
+  }
+
+  -- the status of a rule of which this is kept, where it is decided whether some derivation has it
+  pub status_told : (rule : List ℕ) (s : Statement) → finite.get e.rules rule ≡ Some s → (marked : Bool) (known : Standing) → marked ≡ is_established e rule → Knows e rule s known → cond marked Established known.otherwise ≡ status_of e rule s
+  status_told rule s is true known decided knows =
+      let est = (established_decides rule).0 (sym decided) in
+      sym (fitting rule s Established (established_formed rule s is est, est))
+  status_told rule s is false known decided knows = knows.otherwise (sym decided)
 
 -- the law
 pub statuses_are_exact : StatusesAreExact

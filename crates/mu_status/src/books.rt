@@ -1,29 +1,53 @@
-ghost use Rattle.std.specs.Prelude.{◌≡◌, ◌≤◌, ◌∷◌, ◌++◌, [], map, List, IfOk, OnOk};
+ghost use Rattle.std.specs.Prelude.{◌≡◌, ◌≤◌, ◌∷◌, ◌++◌, [], map, List, Some, IfOk, OnOk};
 ghost use Rattle.std.specs.FinMap as finite;
-ghost use Rattle.std.specs.List.{list_all};
+ghost use Rattle.std.specs.List.{list_all, list_any};
 ghost use Rattle.mu_proof.specs.Citations.{cites};
 ghost use Rattle.mu_proof.specs.declared.citations.Cited.{Cited as CitedOf};
 ghost use Rattle.mu_proof.specs.declared.citations.Cited.TheVariants.{Rule};
 ghost use Rattle.mu_check.specs.Goals.{IsChecker};
 ghost use Rattle.mu_flat.specs.CitedSets.{is_marked};
 ghost use Rattle.mu_flat.specs.Entries.{world_of};
-ghost use Rattle.mu_graph.specs.Derivations.{Stands, is_ready};
-ghost use Rattle.mu_status.specs.Books.{kept_ways, IsBook};
-ghost use Rattle.mu_status.specs.Statuses.{proof_ways, way_by, formed_ways, ways, is_established};
+ghost use Rattle.mu_flat.specs.ProofTables.{proofs_of};
+ghost use Rattle.mu_graph.specs.Derivations.{is_ready};
+ghost use Rattle.mu_status.specs.Books.{kept_ways, told_status, Knows, IsBook};
+ghost use Rattle.mu_status.specs.Statuses.{proof_ways, way_by, formed_ways, checks, status_unchecked, status_by_proofs};
 
+use crate::statuses::RuleStatus;
 use mu_check::Checker;
 use mu_decl::{Context, Statement, well_formed};
 use mu_flat::{CitedSet, Store};
-use mu_graph::{Inferences, KeySet, reachable, reached};
+use mu_graph::{Inferences, KeySet};
 use mu_proof::{Citations, Cited, Proof, cites};
 use mu_tables::Work;
 use mu_tree::{Name, NoMemory, Sequence, Table};
 use std::alloc::Global;
 
-/// The ways to some rules.
+/// What is known of a rule before it is known what is derivable.
 #[derive(Drop)]
-struct Book {
-    rules: Table<Sequence<Citations>>,
+pub(crate) struct Standing {
+    /// The ways to it.
+    ways: Sequence<Citations>,
+    /// Its status if no derivation has it.
+    otherwise: RuleStatus,
+}
+
+/// What is known of some rules.
+#[derive(Drop)]
+pub(crate) struct Book {
+    rules: Table<Standing>,
+}
+
+impl Book {
+    /// The status that is told of a name where what is derivable is marked, none where nothing is known of it.
+    pub(crate) fn told_status(&self, marks: &CitedSet, name: &Name) -> Option<RuleStatus>
+        ensures { result ≡ told_status (is_marked marks.now.rules marks.now.morphisms (Rule name.now)) (finite.get self.now.rules name.now) }
+    {
+        match self.rules.get(name) {
+            Some(_) if marks.has_rule(name) => Some(RuleStatus::Established),
+            Some(known) => Some(known.otherwise),
+            None => None,
+        }
+    }
 }
 
 impl Inferences for Book {
@@ -34,7 +58,7 @@ impl Inferences for Book {
     fn is_ready(&self, key: &Cited, marks: &CitedSet) -> bool {
         match key {
             Cited::Rule(rule) => match self.rules.get(rule) {
-                Some(ways) => some_marked(ways.items(), marks),
+                Some(known) => some_marked(known.ways.items(), marks),
                 None => false,
             },
             Cited::Morphism(_) => false,
@@ -121,7 +145,7 @@ fn add_citations(
 }
 
 /// The ways to a rule with this statement, whose claim is well formed. Each proof of it is checked once.
-pub(crate) fn formed_ways(
+fn formed_ways(
     alloc: Global,
     store: &Store,
     rule: &Name,
@@ -142,89 +166,93 @@ pub(crate) fn formed_ways(
     }
 }
 
-/// The ways to the rule of a name, none where there is no such rule or its claim is not well formed.
-fn ways_to(
+/// The status of a rule without a derivation, where it is known whether a proof of it checks.
+fn status_by_proofs(
     alloc: Global,
     store: &Store,
     rule: &Name,
+    is_complete: bool,
+) -> Result<RuleStatus, NoMemory>
+    ensures { IfOk result (λ status. let entries = finite.entries (proofs_of store.now.proofs rule.now) in
+        is_complete ≡ list_any (checks store.now rule.now) entries → status ≡ status_by_proofs store.now rule.now entries) }
+{
+    if is_complete {
+        return Ok(RuleStatus::Complete);
+    }
+    match store.proofs().of_rule(rule) {
+        Some(proofs) => status_unchecked(alloc, proofs),
+        None => Ok(RuleStatus::Unproved),
+    }
+}
+
+/// The status of a rule none of whose proofs checks.
+fn status_unchecked(alloc: Global, proofs: &Table<Proof>) -> Result<RuleStatus, NoMemory>
+    ensures { IfOk result (λ status. status ≡ status_unchecked (finite.entries proofs.now)) }
+{
+    if proofs.entries(alloc)?.is_empty() {
+        return Ok(RuleStatus::Unproved);
+    }
+    Ok(RuleStatus::Incomplete)
+}
+
+/// What is known of a rule with this statement. Each proof of it is checked once.
+fn standing_of(
+    alloc: Global,
+    store: &Store,
+    rule: &Name,
+    statement: &Statement,
     work: &mut Work,
-) -> Result<Sequence<Citations>, NoMemory>
-    ensures value { IfOk result (λ found. found ≡ ways store.now (Rule rule.now)) }
+) -> Result<Standing, NoMemory>
+    requires { finite.get store.now.rules rule.now ≡ Some statement.now }
+    ensures value { IfOk result (λ known. Knows store.now rule.now statement.now known) }
     ensures work { work.old.lines ≤ work.new.lines }
 {
-    let Some(statement) = store.rule(rule) else {
-        return Ok(Sequence::new(alloc));
-    };
     if !well_formed(alloc, store, &statement.theory, &statement.claim)? {
-        return Ok(Sequence::new(alloc));
+        return Ok(Standing {
+            ways: Sequence::new(alloc),
+            otherwise: RuleStatus::IllFormed,
+        });
     }
-    formed_ways(alloc, store, rule, statement, work)
+    let ways = formed_ways(alloc, store, rule, statement, work)?;
+    let is_complete = !ways.is_empty();
+    let otherwise = status_by_proofs(alloc, store, rule, is_complete)?;
+    Ok(Standing { ways, otherwise })
 }
 
-/// The ways to some members, of which a rule is one whose ways are known.
-fn book_of(
+/// Adds what is known of the rule of a name, where there is one.
+fn add_rule(
     alloc: Global,
     store: &Store,
     rule: &Name,
-    own: Sequence<Citations>,
-    members: &[Cited],
-    work: &mut Work,
-) -> Result<Book, NoMemory>
-    requires own { own ≡ ways store.now (Rule rule.now) }
-    requires there { Stands (Rule rule.now) members.now }
-    ensures value { IfOk result (λ book. IsBook store.now members.now book.rules) }
-    ensures work { work.old.lines ≤ work.new.lines }
-{
-    let mut rules = Table::new(alloc);
-    rules.put(rule.copy(alloc)?, own)?;
-    for member in members {
-        if let Cited::Rule(name) = member {
-            add_ways(alloc, store, name, &mut rules, work)?;
-        }
-    }
-    Ok(Book { rules })
-}
-
-/// Adds the ways to the rule of a name, unless they are there.
-fn add_ways(
-    alloc: Global,
-    store: &Store,
-    rule: &Name,
-    rules: &mut Table<Sequence<Citations>>,
+    rules: &mut Table<Standing>,
     work: &mut Work,
 ) -> Result<(), NoMemory>
     ensures value { OnOk result ((members : List CitedOf) → IsBook store.now members rules.old → IsBook store.now (members ++ Rule rule.now ∷ []) rules.new) }
     ensures work { work.old.lines ≤ work.new.lines }
 {
-    if rules.has(rule) {
+    let Some(statement) = store.rule(rule) else {
         return Ok(());
-    }
-    rules.put(rule.copy(alloc)?, ways_to(alloc, store, rule, work)?)?;
+    };
+    let known = standing_of(alloc, store, rule, statement, work)?;
+    rules.put(rule.copy(alloc)?, known)?;
     Ok(())
 }
 
-/// Whether some derivation has the rule, to which the ways are known. It looks only at what the rule reaches by citations,
-/// and checks each proof of these once.
-///
-/// # Errors
-///
-/// `NoMemory`.
-pub(crate) fn is_established(
+/// What is known of the rules among some members. Each proof of a member is checked once for each place where it stands.
+pub(crate) fn book_of(
     alloc: Global,
     store: &Store,
-    rule: &Name,
-    own: Sequence<Citations>,
+    members: &[Cited],
     work: &mut Work,
-) -> Result<bool, NoMemory>
-    requires { own ≡ ways store.now (Rule rule.now) }
-    ensures value { IfOk result (λ yes. yes ≡ is_established store.now rule.now) }
+) -> Result<Book, NoMemory>
+    ensures value { IfOk result (λ book. IsBook store.now members.now book.rules) }
     ensures work { work.old.lines ≤ work.new.lines }
 {
-    let member = Cited::Rule(rule.copy(alloc)?);
-    let mut starts = Vec::new(alloc);
-    starts.push(Cited::Rule(rule.copy(alloc)?))?;
-    let order = reachable(alloc, store.proofs(), starts)?;
-    let book = book_of(alloc, store, rule, own, order.as_slice(), work)?;
-    let marks = reached(alloc, &book, <CitedSet as KeySet>::none(alloc), order)?;
-    Ok(marks.has(&member))
+    let mut rules = Table::new(alloc);
+    for member in members {
+        if let Cited::Rule(name) = member {
+            add_rule(alloc, store, name, &mut rules, work)?;
+        }
+    }
+    Ok(Book { rules })
 }

@@ -4,4 +4,4 @@
 mod books;
 mod statuses;
 
-pub use statuses::{RuleStatus, status};
+pub use statuses::{RuleStatus, status, statuses_of};

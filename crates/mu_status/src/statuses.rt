@@ -1,16 +1,19 @@
-ghost use Rattle.std.specs.Prelude.{◌≡◌, ◌≤◌, Some, IfOk};
+ghost use Rattle.std.specs.Prelude.{◌≡◌, ◌≤◌, map, IfOk};
 ghost use Rattle.std.specs.FinMap as finite;
-ghost use Rattle.std.specs.List.{list_any};
-ghost use Rattle.mu_flat.specs.ProofTables.{proofs_of};
-ghost use Rattle.mu_status.specs.Statuses.{status_of, status_unchecked, status_at, status_by_proofs, word_of, checks, StatusesAreExact};
+ghost use Rattle.mu_flat.specs.CitedSets.{is_marked};
+ghost use Rattle.mu_proof.specs.declared.citations.Cited.TheVariants.{Rule};
+ghost use Rattle.mu_status.specs.Books.{starts_of, told_status};
+ghost use Rattle.mu_status.specs.Statuses.{status_at, word_of, StatusesAreExact};
 
-use crate::books::{formed_ways, is_established};
-use mu_decl::{Context, Statement, well_formed};
-use mu_flat::Store;
-use mu_proof::Proof;
+use crate::books::{Book, book_of};
+use mu_decl::Context;
+use mu_flat::{CitedSet, Store};
+use mu_graph::{KeySet, reachable, reached};
+use mu_proof::Cited;
 use mu_tables::Work;
-use mu_tree::{Name, NoMemory, Table};
+use mu_tree::{Name, NoMemory};
 use std::alloc::Global;
+use std::slice;
 
 /// How far a rule is proved.
 #[derive(Clone, Copy, Debug, PartialEq, Eq)]
@@ -60,61 +63,59 @@ pub fn status(
     ensures work { work.old.lines ≤ work.new.lines }
     ensures laws { StatusesAreExact }
 {
-    match store.rule(rule) {
-        Some(statement) => Ok(Some(status_of(alloc, store, rule, statement, work)?)),
-        None => Ok(None),
-    }
+    let statuses = statuses_of(alloc, store, slice::from_ref(rule), work)?;
+    Ok(statuses[0])
 }
 
-/// The status of the rule, whose statement this is.
-fn status_of(
+/// The statuses of the rules of some names, in the order of the names, none exactly where there is no such rule. It looks
+/// only at what these rules reach by citations, and checks each proof of that once for all of them. The lines of the
+/// proofs that are checked count as work, which never falls.
+///
+/// # Errors
+///
+/// `NoMemory`.
+pub fn statuses_of(
     alloc: Global,
     store: &Store,
-    rule: &Name,
-    statement: &Statement,
+    names: &[Name],
     work: &mut Work,
-) -> Result<RuleStatus, NoMemory>
-    requires { finite.get store.now.rules rule.now ≡ Some statement.now }
-    ensures value { IfOk result (λ status. status ≡ status_of store.now rule.now statement.now) }
+) -> Result<Vec<Option<RuleStatus>>, NoMemory>
+    ensures value { IfOk result (λ found. found.items ≡ map (λ name. status_at store.now name) names.now) }
     ensures work { work.old.lines ≤ work.new.lines }
+    ensures laws { StatusesAreExact }
 {
-    if !well_formed(alloc, store, &statement.theory, &statement.claim)? {
-        return Ok(RuleStatus::IllFormed);
-    }
-    let own = formed_ways(alloc, store, rule, statement, work)?;
-    let is_complete = !own.is_empty();
-    if is_established(alloc, store, rule, own, work)? {
-        return Ok(RuleStatus::Established);
-    }
-    let status = status_by_proofs(alloc, store, rule, is_complete)?;
-    Ok(status)
+    let starts = starts_of(alloc, store, names)?;
+    let order = reachable(alloc, store.proofs(), starts)?;
+    let book = book_of(alloc, store, order.as_slice(), work)?;
+    let marks = reached(alloc, &book, <CitedSet as KeySet>::none(alloc), order)?;
+    told_statuses(alloc, &book, &marks, names)
 }
 
-/// The status of a rule without a derivation, where it is known whether a proof of it checks.
-fn status_by_proofs(
+/// Those of the names that are rules.
+fn starts_of(alloc: Global, store: &Store, names: &[Name]) -> Result<Vec<Cited>, NoMemory>
+    ensures { IfOk result (λ starts. starts.items ≡ starts_of store.now names.now) }
+{
+    let mut starts = Vec::new(alloc);
+    for name in names {
+        if store.rule(name).is_some() {
+            starts.push(Cited::Rule(name.copy(alloc)?))?;
+        }
+    }
+    Ok(starts)
+}
+
+/// The statuses that are told of some names, in their order.
+fn told_statuses(
     alloc: Global,
-    store: &Store,
-    rule: &Name,
-    is_complete: bool,
-) -> Result<RuleStatus, NoMemory>
-    ensures { IfOk result (λ status. let entries = finite.entries (proofs_of store.now.proofs rule.now) in
-        is_complete ≡ list_any (checks store.now rule.now) entries → status ≡ status_by_proofs store.now rule.now entries) }
+    book: &Book,
+    marks: &CitedSet,
+    names: &[Name],
+) -> Result<Vec<Option<RuleStatus>>, NoMemory>
+    ensures { IfOk result (λ found. found.items ≡ map (λ name. told_status (is_marked marks.now.rules marks.now.morphisms (Rule name)) (finite.get book.now.rules name)) names.now) }
 {
-    if is_complete {
-        return Ok(RuleStatus::Complete);
+    let mut statuses = Vec::new(alloc);
+    for name in names {
+        statuses.push(book.told_status(marks, name))?;
     }
-    match store.proofs().of_rule(rule) {
-        Some(proofs) => status_unchecked(alloc, proofs),
-        None => Ok(RuleStatus::Unproved),
-    }
-}
-
-/// The status of a rule none of whose proofs checks.
-fn status_unchecked(alloc: Global, proofs: &Table<Proof>) -> Result<RuleStatus, NoMemory>
-    ensures { IfOk result (λ status. status ≡ status_unchecked (finite.entries proofs.now)) }
-{
-    if proofs.entries(alloc)?.is_empty() {
-        return Ok(RuleStatus::Unproved);
-    }
-    Ok(RuleStatus::Incomplete)
+    Ok(statuses)
 }

@@ -1,10 +1,9 @@
-use Rattle.std.proofs.Common.{◌≤◌, take, ◌∷◌}
-use Rattle.mu_proof.specs.declared.citations.Cited.TheVariants.{Rule}
+use Rattle.std.proofs.Common.{◌≤◌, take}
 use Rattle.mu_status.specs.Books.{IsBook}
 use Rattle.mu_status.proofs.books.book_of.Given as goal
 
 abbrev pub invariant-loop-member : goal.invariant-loop-member
 invariant-loop-member l = record {
-  book : IsBook l.store (Rule l.rule ∷ take l.member-index l.members) l.rules;
+  book : IsBook l.store (take l.member-index l.members) l.rules;
   work : l.initial.work.lines ≤ l.work.lines;
 }

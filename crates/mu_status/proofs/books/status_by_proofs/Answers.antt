@@ -3,7 +3,7 @@ use Rattle.std.specs.FinMap as finite
 use Rattle.std.proofs.lemmas.Grind.{common_steps}
 use Rattle.mu_status.specs.Statuses.{status_by_proofs}
 use Rattle.mu_status.proofs.BookLemmas.{none_stored}
-use Rattle.mu_status.proofs.statuses.status_by_proofs.Goals as goal
+use Rattle.mu_status.proofs.books.status_by_proofs.Goals as goal
 
 pub returns-in-None : goal.returns-in-None
 returns-in-None c _ =
