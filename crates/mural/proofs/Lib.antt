@@ -1,9 +1,6 @@
-mod Commands
 mod Ends
 mod Known
 mod Lawful
-mod PageLemmas
 mod Pieces
 mod Serving
-mod Storable
 mod Valid

@@ -15,7 +15,7 @@ use Rattle.mu_command.specs.Lines.{line_read}
 use Rattle.mural.specs.Answers.{Answer, read_out, answer}
 use Rattle.mural.specs.Replies.{replies, entries_after, told_for, told_bytes, refuses, some_refused}
 use Rattle.mural.specs.Interpreter.{Served, IsFront, TellsFront, kept_length}
-use Rattle.mural.specs.declared.reply.Reply.{Reply}
+use Rattle.mu_machine.specs.declared.replies.Reply.{Reply}
 use Rattle.mural.proofs.Known.{append_twice}
 use Rattle.mural.proofs.Pieces.{whole_lines_feed, unfinished_feed, whole_lines_byte, unfinished_byte, whole_lines-append}
 

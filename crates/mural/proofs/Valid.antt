@@ -1,21 +1,21 @@
--- After any lines the store is valid.
-use Rattle.std.proofs.Common.{Bool, ◌≡◌, refl, ℕ, true, false, List, [], ◌∷◌, Some, None}
+-- After any lines the store is sound.
+use Rattle.std.proofs.Common.{◌≡◌, refl, ap, ℕ, true, false, List, [], ◌∷◌, Some, None}
 use Rattle.std.specs.Prelude.{Option, Result, Ok, Err, if◌then◌else◌, nat_lt, length}
 use Rattle.mu_tree.specs.declared.refusal.Refusal.{Refusal}
 use Rattle.mu_tree.specs.declared.refusal.Refusal.TheVariants.{LineTooLong}
 use Rattle.mu_flat.specs.Entries.{Entries, IsValid, initial}
-use Rattle.mu_flat.proofs.Validity.{valid_initial}
 use Rattle.mu_command.specs.Canonical.{longest_text}
 use Rattle.mu_command.specs.declared.command.Command.{Command}
 use Rattle.mu_command.specs.Language.{IsCommand}
 use Rattle.mu_command.specs.Lines.{is_quiet, line_read, reading_of, some_command}
 use Rattle.mu_command.proofs.Reading.{read_of_language}
-use Rattle.mu_edit.specs.Changes.{refusal}
-use Rattle.mu_edit.proofs.Valid.{changed_valid}
-use Rattle.mural.specs.Answers.{answer, answered, carry_out, is_barred, no_command, outcome, queried, read_out, step, step_by}
-use Rattle.mural.specs.Replies.{entries_after}
-use Rattle.mural.specs.declared.reply.Reply.{Reply}
-use Rattle.mural.proofs.Storable.{storable}
+use Rattle.mu_status.specs.Statuses.{status_at}
+use Rattle.mu_machine.specs.Sound.{IsSound}
+use Rattle.mu_machine.proofs.SoundChanges.{sound_initial}
+use Rattle.mu_machine.proofs.Steps.{step_sound}
+use Rattle.mural.specs.Answers.{answer, most_room, read_out}
+use Rattle.mural.specs.Laws.{AreAlike}
+use Rattle.mural.specs.Replies.{entries_after, replies}
 
 -- where a line is read as a command, it is one of the language
 abbrev Speaks : Result (Option Command) Refusal → Type 0
@@ -34,34 +34,29 @@ asked_for line =
       | false ↦ elim (is_quiet line) as (λ quiet. Speaks (if quiet then Ok None else some_command (reading_of line))) [ true ↦ tt | false ↦ reads_so line (reading_of line) refl ]
     ]
 
-module _ (e : Entries) (valid : IsValid e) where
-  by_refusal : (c : Command) → IsCommand c → (why : Option Refusal) → refusal e c ≡ why → IsValid (outcome e c why).entries
-  by_refusal c language None is = changed_valid e valid c (storable c language) is
-  by_refusal c language (Some refused) is = valid
+module _ (e : Entries) (sound : IsSound e) where
+  read_so : (read : Result (Option Command) Refusal) → Speaks read → IsSound (read_out e read).entries
+  read_so (Ok None) speaks = sound
+  read_so (Ok (Some c)) speaks = step_sound e sound most_room c speaks
+  read_so (Err refused) speaks = sound
 
-  stepped_by : (c : Command) → IsCommand c → (reply : Option Reply) → IsValid (step_by e c reply).entries
-  stepped_by c language (Some reply) = valid
-  stepped_by c language None = by_refusal c language _ refl
-
-  stepped : (c : Command) → IsCommand c → IsValid (step e c).entries
-  unfolding step
-  stepped c language = stepped_by c language (queried e c)
-
-  carried : (c : Command) → IsCommand c → IsValid (carry_out e c).entries
-  carried c language = elim (is_barred c) as (λ b. IsValid (if b then no_command e 1 else answered (step e c)).entries) [ true ↦ valid | false ↦ stepped c language ]
-
-  read_so : (read : Result (Option Command) Refusal) → Speaks read → IsValid (read_out e read).entries
-  read_so (Ok None) speaks = valid
-  read_so (Ok (Some c)) speaks = carried c speaks
-  read_so (Err refused) speaks = valid
-
-  answered_so : (line : List ℕ) → IsValid (answer e line).entries
+  answered_so : (line : List ℕ) → IsSound (answer e line).entries
   unfolding answer
   answered_so line = read_so (line_read line) (asked_for line)
 
-after : (e : Entries) (lines : List (List ℕ)) → IsValid e → IsValid (entries_after e lines)
-after e [] valid = valid
-after e (line ∷ lines) valid = after (answer e line).entries lines (answered_so e valid line)
+after : (e : Entries) (lines : List (List ℕ)) → IsSound e → IsSound (entries_after e lines)
+after e [] sound = sound
+after e (line ∷ lines) sound = after (answer e line).entries lines (answered_so e sound line)
+
+pub reached_sound : (lines : List (List ℕ)) → IsSound (entries_after initial lines)
+reached_sound lines = after initial lines sound_initial
 
 pub reached_valid : (lines : List (List ℕ)) → IsValid (entries_after initial lines)
-reached_valid lines = after initial lines valid_initial
+reached_valid lines = (reached_sound lines).valid
+
+-- equal stores show the same
+pub alike_after : (first second : List (List ℕ)) → entries_after initial first ≡ entries_after initial second → AreAlike first second
+alike_after first second same = record {
+  statuses = λ rule. ap (λ e. status_at e rule) same;
+  replies_are = λ lines. ap (λ e. replies e lines) same;
+}

@@ -2,7 +2,6 @@ pub mod Answers
 pub mod Interpreter
 pub mod Laws
 pub mod Lines
-pub mod Pages
 pub mod Replies
 pub mod Runs
 pub mod Status

@@ -5,7 +5,7 @@ use Rattle.mu_flat.specs.Entries.{Entries, initial}
 use Rattle.mural.specs.Answers.{answer}
 use Rattle.mural.specs.Lines.{due_lines}
 use Rattle.mural.specs.Wording.{told_as, is_refusal}
-use Rattle.mural.specs.declared.reply.Reply.{Reply}
+use Rattle.mu_machine.specs.declared.replies.Reply.{Reply}
 
 -- the replies to lines, one after another: none to a quiet one
 abbrev pub replies : Entries → List (List ℕ) → List (Option Reply)

@@ -7,8 +7,8 @@ use Rattle.mu_tree.specs.declared.refusal.LimitWord.{LimitWord}
 use Rattle.mu_tree.specs.declared.refusal.LimitWord.TheVariants as limit
 use Rattle.mu_tree.specs.declared.refusal.CountWord.{CountWord}
 use Rattle.mu_tree.specs.declared.refusal.CountWord.TheVariants as count
-use Rattle.mural.specs.declared.reply.Reply.{Reply}
-use Rattle.mural.specs.declared.reply.Reply.TheVariants.{Accepted, Page, Refused}
+use Rattle.mu_machine.specs.declared.replies.Reply.{Reply}
+use Rattle.mu_machine.specs.declared.replies.Reply.TheVariants.{Changed, Page, Refused}
 
 -- the word for what there would be too many of
 abbrev pub count_word : CountWord → List ℕ
@@ -66,12 +66,12 @@ refusal_words refused = refusal_word refused ++ refusal_detail refused
 
 -- the bytes that tell a reply
 abbrev pub told_as : Reply → List ℕ
-told_as Accepted = codes "ok" ++ 10 ∷ []
+told_as (Changed line) = codes "ok" ++ 10 ∷ []
 told_as (Page text) = text
 told_as (Refused refused) = codes "refused " ++ refusal_words refused ++ 10 ∷ []
 
 -- whether a reply is a refusal
 abbrev pub is_refusal : Reply → Bool
-is_refusal Accepted = false
+is_refusal (Changed line) = false
 is_refusal (Page text) = false
 is_refusal (Refused refused) = true

@@ -11,7 +11,7 @@ use crate::answers::answer_line;
 use crate::telling::tell_all;
 use crate::wording::{is_refusal, reply_text};
 use mu_command::LONGEST_LINE;
-use mu_flat::Store;
+use mu_machine::Machine;
 use mu_outside::{Failed, Outside};
 use mu_tree::NoMemory;
 use std::alloc::{AllocFailed, Global};
@@ -58,10 +58,10 @@ impl From<Failed> for Stop {
     }
 }
 
-/// A store, and the input so far that is not answered yet.
+/// A machine, and the input so far that is not answered yet.
 #[derive(Drop)]
 pub(crate) struct Interpreter {
-    pub(crate) store: Store,
+    pub(crate) machine: Machine,
     /// The first bytes of the line in hand, one more than a line may have at the most.
     pub(crate) line: Vec<u8>,
     /// Whether some reply was a refusal.
@@ -69,16 +69,16 @@ pub(crate) struct Interpreter {
 }
 
 impl Interpreter {
-    /// An interpreter that has read nothing, over a store that has the base theory alone.
+    /// An interpreter that has read nothing, over a machine that has the base theory alone.
     ///
     /// # Errors
     ///
     /// `NoMemory`.
     pub(crate) fn new(alloc: Global) -> Result<Interpreter, NoMemory>
-        ensures { IfOk result (λ interpreter. IsFresh interpreter.store interpreter.line.items interpreter.refused) }
+        ensures { IfOk result (λ interpreter. IsFresh interpreter.machine interpreter.line.items interpreter.refused) }
     {
         Ok(Interpreter {
-            store: Store::new(alloc)?,
+            machine: Machine::new(alloc)?,
             line: Vec::new(alloc),
             refused: false,
         })
@@ -86,15 +86,15 @@ impl Interpreter {
 
     /// Answers the line in hand. Its reply is told whole, or after a `TellFault` in part.
     fn respond<O: Outside>(&mut self, alloc: Global, out: &mut O) -> Result<(), Stop>
-        ensures store { OnOk result (self.new.store ≡ (answer self.old.store self.old.line.items).entries) }
-        ensures refused { OnOk result (self.new.refused ≡ (self.old.refused || refuses (answer self.old.store self.old.line.items).reply)) }
-        ensures told { OnOk result ((O.observed out.new).told ≡ append_known (O.observed out.old).told (told_for (answer self.old.store self.old.line.items).reply)) }
-        ensures front { OnErr result ((n : ℕ) × ((O.observed out.new).told ≡ append_known (O.observed out.old).told (take n (told_for (answer self.old.store self.old.line.items).reply)))) }
+        ensures store { OnOk result (self.new.machine ≡ (answer self.old.machine self.old.line.items).entries) }
+        ensures refused { OnOk result (self.new.refused ≡ (self.old.refused || refuses (answer self.old.machine self.old.line.items).reply)) }
+        ensures told { OnOk result ((O.observed out.new).told ≡ append_known (O.observed out.old).told (told_for (answer self.old.machine self.old.line.items).reply)) }
+        ensures front { OnErr result ((n : ℕ) × ((O.observed out.new).told ≡ append_known (O.observed out.old).told (take n (told_for (answer self.old.machine self.old.line.items).reply)))) }
         ensures rest { KeepsButTold (O.observed out.old) (O.observed out.new) }
         ensures later { (O.observed out.old).tell_faults ≤ (O.observed out.new).tell_faults }
         ensures cause { IsErrOf result Stop.TellFault → Rose (O.observed out.old).tell_faults (O.observed out.new).tell_faults }
     {
-        let Some(reply) = answer_line(alloc, &mut self.store, &self.line)? else {
+        let Some(reply) = answer_line(alloc, &mut self.machine, &self.line)? else {
             return Ok(());
         };
         self.refused = self.refused || is_refusal(&reply);
@@ -106,10 +106,10 @@ impl Interpreter {
     /// Answers the line that this byte ends, or keeps the byte.
     fn feed_byte<O: Outside>(&mut self, alloc: Global, out: &mut O, byte: u8) -> Result<(), Stop>
         ensures served { OnOk result ((start : Option (List ℕ)) (bytes : List ℕ)
-            → Served start bytes self.old.store self.old.line.items self.old.refused (O.observed out.old).told
-            → Served start (bytes ++ byte ∷ []) self.new.store self.new.line.items self.new.refused (O.observed out.new).told) }
+            → Served start bytes self.old.machine self.old.line.items self.old.refused (O.observed out.old).told
+            → Served start (bytes ++ byte ∷ []) self.new.machine self.new.line.items self.new.refused (O.observed out.new).told) }
         ensures front { OnErr result ((start : Option (List ℕ)) (bytes : List ℕ)
-            → Served start bytes self.old.store self.old.line.items self.old.refused (O.observed out.old).told
+            → Served start bytes self.old.machine self.old.line.items self.old.refused (O.observed out.old).told
             → TellsFront start (whole_lines (bytes ++ byte ∷ [])) (O.observed out.new).told) }
         ensures rest { KeepsButTold (O.observed out.old) (O.observed out.new) }
         ensures later { (O.observed out.old).tell_faults ≤ (O.observed out.new).tell_faults }
@@ -134,10 +134,10 @@ impl Interpreter {
         bytes: &[u8],
     ) -> Result<(), Stop>
         ensures served { OnOk result ((start : Option (List ℕ)) (first : List ℕ)
-            → Served start first self.old.store self.old.line.items self.old.refused (O.observed out.old).told
-            → Served start (first ++ bytes.now) self.new.store self.new.line.items self.new.refused (O.observed out.new).told) }
+            → Served start first self.old.machine self.old.line.items self.old.refused (O.observed out.old).told
+            → Served start (first ++ bytes.now) self.new.machine self.new.line.items self.new.refused (O.observed out.new).told) }
         ensures front { OnErr result ((start : Option (List ℕ)) (first : List ℕ)
-            → Served start first self.old.store self.old.line.items self.old.refused (O.observed out.old).told
+            → Served start first self.old.machine self.old.line.items self.old.refused (O.observed out.old).told
             → TellsFront start (whole_lines (first ++ bytes.now)) (O.observed out.new).told) }
         ensures rest { KeepsButTold (O.observed out.old) (O.observed out.new) }
         ensures later { (O.observed out.old).tell_faults ≤ (O.observed out.new).tell_faults }
@@ -152,13 +152,13 @@ impl Interpreter {
     /// Answers the last line where no line feed ended it.
     pub(crate) fn finish<O: Outside>(&mut self, alloc: Global, out: &mut O) -> Result<(), Stop>
         ensures told { OnOk result ((start : Option (List ℕ)) (bytes : List ℕ)
-            → Served start bytes self.old.store self.old.line.items self.old.refused (O.observed out.old).told
+            → Served start bytes self.old.machine self.old.line.items self.old.refused (O.observed out.old).told
             → (O.observed out.new).told ≡ append_known start (told_bytes (replies initial (lines bytes)))) }
         ensures refused { OnOk result ((start : Option (List ℕ)) (bytes : List ℕ)
-            → Served start bytes self.old.store self.old.line.items self.old.refused (O.observed out.old).told
+            → Served start bytes self.old.machine self.old.line.items self.old.refused (O.observed out.old).told
             → self.new.refused ≡ some_refused (replies initial (lines bytes))) }
         ensures front { OnErr result ((start : Option (List ℕ)) (bytes : List ℕ)
-            → Served start bytes self.old.store self.old.line.items self.old.refused (O.observed out.old).told
+            → Served start bytes self.old.machine self.old.line.items self.old.refused (O.observed out.old).told
             → TellsFront start (lines bytes) (O.observed out.new).told) }
         ensures rest { KeepsButTold (O.observed out.old) (O.observed out.new) }
         ensures later { (O.observed out.old).tell_faults ≤ (O.observed out.new).tell_faults }

@@ -3,8 +3,6 @@
 
 mod answers;
 mod interpreter;
-mod pages;
-mod reply;
 mod runs;
 mod status;
 mod telling;

@@ -18,7 +18,7 @@ const PIECE: usize = 4096;
 
 /// Answers the lines of the input, one after another, with an interpreter that has read nothing.
 fn serve<O: Outside>(alloc: Global, out: &mut O, mut interpreter: Interpreter) -> Status
-    requires { IsFresh interpreter.store interpreter.line.items interpreter.refused }
+    requires { IsFresh interpreter.machine interpreter.line.items interpreter.refused }
     ensures ended { (input : List ℕ) → (O.observed out.old).left ≡ Some input → Ended input (O.observed out.old).told (O.observed out.new) result }
     ensures risen { HasRisen (O.observed out.old) (O.observed out.new) result }
     ensures served { result ≢ Status.Usage }

@@ -1,7 +1,7 @@
 ghost use Rattle.std.specs.Prelude.{◌≡◌, ◌++◌, IfOk, OnOk, codes};
 ghost use Rattle.mural.specs.Wording.{told_as, is_refusal as refusal_test, count_word, limit_word, refusal_detail, refusal_word, refusal_words};
 
-use crate::reply::Reply;
+use mu_machine::Reply;
 use mu_tree::{Bytes, CountWord, LimitWord, NoMemory, Refusal};
 use std::alloc::Global;
 
@@ -10,11 +10,11 @@ pub(crate) fn reply_text(alloc: Global, reply: Reply) -> Result<Bytes, NoMemory>
     ensures { IfOk result (λ text. text ≡ told_as reply) }
 {
     match reply {
-        Reply::Accepted => {
+        Reply::Changed { .. } => {
             let text = Vec::from_slice(alloc, b"ok\n")?;
             Ok(Bytes::from_vec(text))
         }
-        Reply::Page(text) => Ok(text),
+        Reply::Page { text } => Ok(text),
         Reply::Refused(refusal) => {
             let mut text = Vec::from_slice(alloc, b"refused ")?;
             text.extend_from_slice(refusal_text(alloc, &refusal)?.items())?;

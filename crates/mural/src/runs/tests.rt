@@ -4,10 +4,13 @@ mod edits;
 mod examples;
 mod forms;
 mod limits;
+mod machine;
 mod pages;
 mod reasons;
+mod statuses;
 mod transcripts;
 mod trees;
+mod units;
 
 use super::*;
 use boxes::boxes;
@@ -17,9 +20,11 @@ use mu_outside::{Desk, Faults};
 use mu_tree::{Bytes, NoMemory, Numbers};
 use pages::pages;
 use reasons::reasons;
+use statuses::statuses;
 use std::test::Fail;
 use transcripts::transcripts;
 use trees::trees;
+use units::units;
 
 fn desk(alloc: Global, input: &[u8], takes: &[u64], tells: &[u64]) -> Result<Desk, NoMemory> {
     let input = Bytes::from_vec(Vec::from_slice(alloc, input)?);
@@ -167,6 +172,12 @@ fn answers_as_in_the_transcripts(rt: HostRuntime) -> Result<(), Fail> {
         "transcripts on reasons"
     );
     assert_eq!(rt; first_wrong(alloc, &edits())?, None, "transcripts on edits");
+    assert_eq!(rt; first_wrong(alloc, &units())?, None, "transcripts on units");
+    assert_eq!(rt;
+        first_wrong(alloc, &statuses())?,
+        None,
+        "transcripts on statuses"
+    );
     Ok(())
 }
 

@@ -25,7 +25,7 @@ returns-in-Err-feed-clause-ended g c input is =
     let due = c.min-due.result in
     let buf = c.take.new.buf in
     let due_is : due ≡ min n (2 ^ 28 - c.loop-taken.count) = search rules in
-    let served = served_on start (g.O.Outside.observed c.loop-taken.out).told (g.O.Outside.observed c.take.new.self).told bytes c.loop-taken.interpreter.store c.loop-taken.interpreter.line.items c.loop-taken.interpreter.refused i.served c.take.ensures.rest.told in
+    let served = served_on start (g.O.Outside.observed c.loop-taken.out).told (g.O.Outside.observed c.take.new.self).told bytes c.loop-taken.interpreter.machine c.loop-taken.interpreter.line.items c.loop-taken.interpreter.refused i.served c.take.ensures.rest.told in
     let left = taken_part (g.O.Outside.observed c.args.out.now).left (g.O.Outside.observed c.loop-taken.out).left (g.O.Outside.observed c.take.new.self).left bytes buf n due i.left c.in-Ok.ensures.input.1 (omega (arith, due_is)) in
     let most : length (bytes ++ take due buf) ≤ most_input = omega (arith, due_is, i.count, i.most, length-append bytes (take due buf), length-take due buf) in
     ended_stop input start (g.O.Outside.observed c.feed.new.out) c.in-Err-feed.stop c.status_of.result c.status_of.ensures
@@ -41,7 +41,7 @@ returns-then-due-taken-clause-ended g c input is =
     let due = c.min-due.result in
     let buf = c.take.new.buf in
     let due_is : due ≡ min n (2 ^ 28 - c.loop-taken.count) = search rules in
-    let served = served_on start (g.O.Outside.observed c.loop-taken.out).told (g.O.Outside.observed c.take.new.self).told bytes c.loop-taken.interpreter.store c.loop-taken.interpreter.line.items c.loop-taken.interpreter.refused i.served c.take.ensures.rest.told in
+    let served = served_on start (g.O.Outside.observed c.loop-taken.out).told (g.O.Outside.observed c.take.new.self).told bytes c.loop-taken.interpreter.machine c.loop-taken.interpreter.line.items c.loop-taken.interpreter.refused i.served c.take.ensures.rest.told in
     let left = taken_part (g.O.Outside.observed c.args.out.now).left (g.O.Outside.observed c.loop-taken.out).left (g.O.Outside.observed c.take.new.self).left bytes buf n due i.left c.in-Ok.ensures.input.1 (omega (arith, due_is)) in
     let size : length (take due buf) ≡ due = length-take-le due buf (omega (arith, due_is, c.in-Ok.ensures.input.0)) in
     let full : length (bytes ++ take due buf) ≡ most_input = omega (arith, due_is, i.count, i.most, size, length-append bytes (take due buf), c.if-due-taken.true) in
@@ -58,7 +58,7 @@ loop-taken-preserved g c =
     let due = c.min-due.result in
     let buf = c.take.new.buf in
     let due_is : due ≡ min n (2 ^ 28 - c.loop-taken.count) = search rules in
-    let served = served_on start (g.O.Outside.observed c.loop-taken.out).told (g.O.Outside.observed c.take.new.self).told bytes c.loop-taken.interpreter.store c.loop-taken.interpreter.line.items c.loop-taken.interpreter.refused i.served c.take.ensures.rest.told in
+    let served = served_on start (g.O.Outside.observed c.loop-taken.out).told (g.O.Outside.observed c.take.new.self).told bytes c.loop-taken.interpreter.machine c.loop-taken.interpreter.line.items c.loop-taken.interpreter.refused i.served c.take.ensures.rest.told in
     let size : length (take due buf) ≡ due = length-take-le due buf (omega (arith, due_is, c.in-Ok.ensures.input.0)) in
     let all : due ≡ n = omega (arith, due_is, c.if-due-taken.false) in (
       bytes ++ take due buf,
@@ -78,7 +78,7 @@ returns-in-Ok-finish-clause-ended g c input is =
     let start = (g.O.Outside.observed c.args.out.now).told in
     let bytes : List ℕ = c.loop-taken.invariant.0 in
     let i = c.loop-taken.invariant.1 in
-    let served = served_on start (g.O.Outside.observed c.loop-taken.out).told (g.O.Outside.observed c.take.new.self).told bytes c.loop-taken.interpreter.store c.loop-taken.interpreter.line.items c.loop-taken.interpreter.refused i.served c.take.ensures.rest.told in
+    let served = served_on start (g.O.Outside.observed c.loop-taken.out).told (g.O.Outside.observed c.take.new.self).told bytes c.loop-taken.interpreter.machine c.loop-taken.interpreter.line.items c.loop-taken.interpreter.refused i.served c.take.ensures.rest.told in
     let end = input_ends (g.O.Outside.observed c.args.out.now).left (g.O.Outside.observed c.loop-taken.out).left (g.O.Outside.observed c.take.new.self).left bytes c.take.new.buf input c.in-Ok.taken i.left is
     (c.in-Ok.ensures.input.2 c.if-taken-eq0.true) c.in-Ok.ensures.input.1 in
     let due = all_due input bytes end.0 i.most in
@@ -95,7 +95,7 @@ returns-clause-ended g c input is =
     let start = (g.O.Outside.observed c.args.out.now).told in
     let bytes : List ℕ = c.loop-taken.invariant.0 in
     let i = c.loop-taken.invariant.1 in
-    let served = served_on start (g.O.Outside.observed c.loop-taken.out).told (g.O.Outside.observed c.take.new.self).told bytes c.loop-taken.interpreter.store c.loop-taken.interpreter.line.items c.loop-taken.interpreter.refused i.served c.take.ensures.rest.told in
+    let served = served_on start (g.O.Outside.observed c.loop-taken.out).told (g.O.Outside.observed c.take.new.self).told bytes c.loop-taken.interpreter.machine c.loop-taken.interpreter.line.items c.loop-taken.interpreter.refused i.served c.take.ensures.rest.told in
     let end = input_ends (g.O.Outside.observed c.args.out.now).left (g.O.Outside.observed c.loop-taken.out).left (g.O.Outside.observed c.take.new.self).left bytes c.take.new.buf input c.in-Ok.taken i.left is
     (c.in-Ok.ensures.input.2 c.if-taken-eq0.true) c.in-Ok.ensures.input.1 in
     ended_stop input start (g.O.Outside.observed c.finish.new.out) c.in-Err-finish.stop c.status_of-in-Err-finish.result c.status_of-in-Err-finish.ensures

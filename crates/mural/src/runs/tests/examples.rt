@@ -10,9 +10,10 @@ pub(super) mod propositions;
 pub(super) mod refusals;
 pub(super) mod theories;
 pub(super) mod tutorial;
+pub(super) mod units;
 
 /// Each example with its replies.
-pub(super) fn examples() -> [(&'static [u8], &'static [u8]); 10] {
+pub(super) fn examples() -> [(&'static [u8], &'static [u8]); 11] {
     [
         (boxes::COMMANDS, boxes::REPLIES),
         (edits::COMMANDS, edits::REPLIES),
@@ -24,5 +25,6 @@ pub(super) fn examples() -> [(&'static [u8], &'static [u8]); 10] {
         (refusals::COMMANDS, refusals::REPLIES),
         (theories::COMMANDS, theories::REPLIES),
         (tutorial::COMMANDS, tutorial::REPLIES),
+        (units::COMMANDS, units::REPLIES),
     ]
 }

@@ -9,14 +9,14 @@ pub returns-in_err-respond-clause-front : goal.returns-in_err-respond-clause-fro
 returns-in_err-respond-clause-front g c =
     let feeds : is_line_feed c.args.byte ≡ true = search rules in
     let front = c.in_err-respond.ensures.front in
-    on_err c.from_residual.result (λ start bytes served. front_feed start bytes c.args.self.now.store c.args.self.now.line.items c.args.self.now.refused
+    on_err c.from_residual.result (λ start bytes served. front_feed start bytes c.args.self.now.machine c.args.self.now.line.items c.args.self.now.refused
     (g.O.Outside.observed c.args.out.now).told served c.args.byte front.0 (g.O.Outside.observed c.respond.new.out).told feeds front.1)
 
 pub returns-then-byte-eq10-clause-served : goal.returns-then-byte-eq10-clause-served
 returns-then-byte-eq10-clause-served g c =
     let feeds : is_line_feed c.args.byte ≡ true = search rules in
-    λ start bytes served. served_feed start bytes c.args.self.now.store c.args.self.now.line.items c.args.self.now.refused
-    (g.O.Outside.observed c.args.out.now).told served c.args.byte c.respond.new.self.store c.clear.new.self.items c.respond.new.self.refused (g.O.Outside.observed c.respond.new.out).told
+    λ start bytes served. served_feed start bytes c.args.self.now.machine c.args.self.now.line.items c.args.self.now.refused
+    (g.O.Outside.observed c.args.out.now).told served c.args.byte c.respond.new.self.machine c.clear.new.self.items c.respond.new.self.refused (g.O.Outside.observed c.respond.new.out).told
     feeds c.in_ok-respond.ensures.store c.clear.ensures.items c.in_ok-respond.ensures.refused c.in_ok-respond.ensures.told
 
 pub returns-in_err-push-clause-front : goal.returns-in_err-push-clause-front
@@ -29,17 +29,17 @@ returns-in_err-push-clause-front g c =
 pub returns-in_ok-push-clause-served : goal.returns-in_ok-push-clause-served
 returns-in_ok-push-clause-served g c =
     let other : is_line_feed c.args.byte ≡ false = search rules in
-    λ start bytes served. served_byte start bytes c.args.self.now.store c.args.self.now.line.items c.args.self.now.refused
-    (g.O.Outside.observed c.args.out.now).told served c.args.byte c.args.self.now.store c.push.new.self.items c.args.self.now.refused (g.O.Outside.observed c.args.out.now).told
+    λ start bytes served. served_byte start bytes c.args.self.now.machine c.args.self.now.line.items c.args.self.now.refused
+    (g.O.Outside.observed c.args.out.now).told served c.args.byte c.args.self.now.machine c.push.new.self.items c.args.self.now.refused (g.O.Outside.observed c.args.out.now).told
     other refl
-    (c.in_ok-push.ensures.items ∙ line_room start bytes c.args.self.now.store c.args.self.now.line.items c.args.self.now.refused (g.O.Outside.observed c.args.out.now).told served c.args.byte (search rules))
+    (c.in_ok-push.ensures.items ∙ line_room start bytes c.args.self.now.machine c.args.self.now.line.items c.args.self.now.refused (g.O.Outside.observed c.args.out.now).told served c.args.byte (search rules))
     refl refl
 
 pub returns-else-len-le-LONGEST_LINE-clause-served : goal.returns-else-len-le-LONGEST_LINE-clause-served
 returns-else-len-le-LONGEST_LINE-clause-served g c =
     let other : is_line_feed c.args.byte ≡ false = search rules in
-    λ start bytes served. served_byte start bytes c.args.self.now.store c.args.self.now.line.items c.args.self.now.refused
-    (g.O.Outside.observed c.args.out.now).told served c.args.byte c.args.self.now.store c.args.self.now.line.items c.args.self.now.refused (g.O.Outside.observed c.args.out.now).told
+    λ start bytes served. served_byte start bytes c.args.self.now.machine c.args.self.now.line.items c.args.self.now.refused
+    (g.O.Outside.observed c.args.out.now).told served c.args.byte c.args.self.now.machine c.args.self.now.line.items c.args.self.now.refused (g.O.Outside.observed c.args.out.now).told
     other refl
-    (line_full start bytes c.args.self.now.store c.args.self.now.line.items c.args.self.now.refused (g.O.Outside.observed c.args.out.now).told served c.args.byte (search rules))
+    (line_full start bytes c.args.self.now.machine c.args.self.now.line.items c.args.self.now.refused (g.O.Outside.observed c.args.out.now).told served c.args.byte (search rules))
     refl refl

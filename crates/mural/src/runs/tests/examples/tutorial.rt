@@ -25,6 +25,7 @@ proof again m
 line again m end in root : q
 cite again m end : rule later
 status again
+show unit prop
 proof later m
 line later m end in root : q
 cite later m end : rule again
@@ -74,6 +75,17 @@ ok
 ok
 ok
 again rule complete
+theory prop
+const conj(e, e) -> e
+const p -> e
+const q -> e
+rule again complete : q
+axiom both established : ?a; ?b |- conj(?a, ?b)
+rule goal established : conj(p, q)
+axiom if_p_then_q established : p |- q
+rule later unproved : q
+axiom p_holds established : p
+end
 ok
 ok
 refused circle again

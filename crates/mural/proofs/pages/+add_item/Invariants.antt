@@ -1,7 +1,0 @@
-use Rattle.std.proofs.Common.{◌≡◌, ◌++◌, take}
-use Rattle.std.specs.List.{flat_map}
-use Rattle.mural.specs.Pages.{item_text}
-use Rattle.mural.proofs.pages.+add_item.Given as goal
-
-abbrev pub invariant-add_items-loop-item : goal.invariant-add_items-loop-item
-invariant-add_items-loop-item l = l.page.items ≡ l.initial.page.items ++ flat_map (λ each. item_text each l.blanks) (take l.item-index l.items)
