@@ -12,6 +12,7 @@ ghost use Rattle.mu_graph.specs.Derivations.{is_ready};
 ghost use Rattle.mu_status.specs.Books.{kept_ways, told_status, Knows, IsBook};
 ghost use Rattle.mu_status.specs.Statuses.{proof_ways, way_by, formed_ways, checks, status_unchecked, status_by_proofs};
 
+use crate::sights::Viewer;
 use crate::statuses::RuleStatus;
 use mu_check::Checker;
 use mu_decl::{Context, Statement, well_formed};
@@ -81,33 +82,33 @@ fn some_marked(ways: &[Citations], marks: &CitedSet) -> bool
 /// What each proof of a rule that checks cites. The claim of the rule is made ready once for all of them.
 fn proof_ways(
     alloc: Global,
-    store: &Store,
+    context: &Viewer,
     rule: &Name,
     proofs: &Table<Proof>,
     work: &mut Work,
 ) -> Result<Sequence<Citations>, NoMemory>
-    ensures value { IfOk result (λ ways. ways ≡ proof_ways store.now rule.now (finite.entries proofs.now)) }
+    ensures value { IfOk result (λ ways. ways ≡ proof_ways context.now.store.now rule.now (finite.entries proofs.now)) }
     ensures work { work.old.lines ≤ work.new.lines }
 {
-    let mut checker = Checker::new(alloc, store, rule)?;
-    checked_ways(alloc, store, proofs, &mut checker, work)
+    let mut checker = Checker::new(alloc, context, rule)?;
+    checked_ways(alloc, context, proofs, &mut checker, work)
 }
 
 /// What each proof of the checker's rule that checks cites.
 fn checked_ways(
     alloc: Global,
-    store: &Store,
+    context: &Viewer,
     proofs: &Table<Proof>,
     checker: &mut Checker,
     work: &mut Work,
 ) -> Result<Sequence<Citations>, NoMemory>
-    requires { IsChecker (world_of store.now) checker.old }
-    ensures value { IfOk result (λ ways. ways ≡ proof_ways store.now checker.old.rule (finite.entries proofs.now)) }
+    requires { IsChecker (world_of context.now.store.now) checker.old }
+    ensures value { IfOk result (λ ways. ways ≡ proof_ways context.now.store.now checker.old.rule (finite.entries proofs.now)) }
     ensures work { work.old.lines ≤ work.new.lines }
 {
     let mut ways = Sequence::new(alloc);
     for entry in proofs.entries(alloc)? {
-        add_way(alloc, store, entry.1, checker, &mut ways, work)?;
+        add_way(alloc, context, entry.1, checker, &mut ways, work)?;
     }
     Ok(ways)
 }
@@ -115,19 +116,19 @@ fn checked_ways(
 /// Adds what a proof of the checker's rule cites, where it checks.
 fn add_way(
     alloc: Global,
-    store: &Store,
+    context: &Viewer,
     proof: &Proof,
     checker: &mut Checker,
     ways: &mut Sequence<Citations>,
     work: &mut Work,
 ) -> Result<(), NoMemory>
-    requires { IsChecker (world_of store.now) checker.old }
-    ensures ways { OnOk result (ways.new ≡ ways.old ++ way_by store.now checker.old.rule proof.now) }
-    ensures kept { OnOk result (IsChecker (world_of store.now) checker.new) }
+    requires { IsChecker (world_of context.now.store.now) checker.old }
+    ensures ways { OnOk result (ways.new ≡ ways.old ++ way_by context.now.store.now checker.old.rule proof.now) }
+    ensures kept { OnOk result (IsChecker (world_of context.now.store.now) checker.new) }
     ensures rule { OnOk result (checker.new.rule ≡ checker.old.rule) }
     ensures work { work.old.lines ≤ work.new.lines }
 {
-    if checker.check(alloc, store, proof, work)?.is_none() {
+    if checker.check(alloc, context, proof, work)?.is_none() {
         add_citations(alloc, proof, ways)?;
     }
     Ok(())
@@ -147,12 +148,12 @@ fn add_citations(
 /// The ways to a rule with this statement, whose claim is well formed. Each proof of it is checked once.
 fn formed_ways(
     alloc: Global,
-    store: &Store,
+    context: &Viewer,
     rule: &Name,
     statement: &Statement,
     work: &mut Work,
 ) -> Result<Sequence<Citations>, NoMemory>
-    ensures value { IfOk result (λ ways. ways ≡ formed_ways store.now rule.now statement.now) }
+    ensures value { IfOk result (λ ways. ways ≡ formed_ways context.now.store.now rule.now statement.now) }
     ensures work { work.old.lines ≤ work.new.lines }
 {
     let mut ways = Sequence::new(alloc);
@@ -160,8 +161,8 @@ fn formed_ways(
         ways.push(Sequence::new(alloc))?;
         return Ok(ways);
     }
-    match store.proofs().of_rule(rule) {
-        Some(proofs) => proof_ways(alloc, store, rule, proofs, work),
+    match context.store.proofs().of_rule(rule) {
+        Some(proofs) => proof_ways(alloc, context, rule, proofs, work),
         None => Ok(ways),
     }
 }
@@ -198,42 +199,45 @@ fn status_unchecked(alloc: Global, proofs: &Table<Proof>) -> Result<RuleStatus, 
 /// What is known of a rule with this statement. Each proof of it is checked once.
 fn standing_of(
     alloc: Global,
-    store: &Store,
+    context: &Viewer,
     rule: &Name,
     statement: &Statement,
     work: &mut Work,
 ) -> Result<Standing, NoMemory>
-    requires { finite.get store.now.rules rule.now ≡ Some statement.now }
-    ensures value { IfOk result (λ known. Knows store.now rule.now statement.now known) }
+    requires { finite.get context.now.store.now.rules rule.now ≡ Some statement.now }
+    ensures value { IfOk result (λ known. Knows context.now.store.now rule.now statement.now known) }
     ensures work { work.old.lines ≤ work.new.lines }
 {
-    if !well_formed(alloc, store, &statement.theory, &statement.claim)? {
+    if !well_formed(alloc, context, &statement.theory, &statement.claim)? {
         return Ok(Standing {
             ways: Sequence::new(alloc),
             otherwise: RuleStatus::IllFormed,
         });
     }
-    let ways = formed_ways(alloc, store, rule, statement, work)?;
+    let ways = formed_ways(alloc, context, rule, statement, work)?;
     let is_complete = !ways.is_empty();
-    let otherwise = status_by_proofs(alloc, store, rule, is_complete)?;
+    let otherwise = status_by_proofs(alloc, context.store, rule, is_complete)?;
     Ok(Standing { ways, otherwise })
 }
 
 /// Adds what is known of the rule of a name, where there is one.
 fn add_rule(
     alloc: Global,
-    store: &Store,
+    viewer: &mut Viewer,
     rule: &Name,
     rules: &mut Table<Standing>,
     work: &mut Work,
 ) -> Result<(), NoMemory>
-    ensures value { OnOk result ((members : List CitedOf) → IsBook store.now members rules.old → IsBook store.now (members ++ Rule rule.now ∷ []) rules.new) }
+    ensures value { OnOk result ((members : List CitedOf) → IsBook viewer.old.store.now members rules.old → IsBook viewer.old.store.now (members ++ Rule rule.now ∷ []) rules.new) }
+    ensures store { OnOk result (viewer.new.store ≡ viewer.old.store) }
     ensures work { work.old.lines ≤ work.new.lines }
 {
+    let store = viewer.store;
     let Some(statement) = store.rule(rule) else {
         return Ok(());
     };
-    let known = standing_of(alloc, store, rule, statement, work)?;
+    viewer.look_from(alloc, &statement.theory)?;
+    let known = standing_of(alloc, viewer, rule, statement, work)?;
     rules.put(rule.copy(alloc)?, known)?;
     Ok(())
 }
@@ -248,10 +252,11 @@ pub(crate) fn book_of(
     ensures value { IfOk result (λ book. IsBook store.now members.now book.rules) }
     ensures work { work.old.lines ≤ work.new.lines }
 {
+    let mut viewer = Viewer::new(store);
     let mut rules = Table::new(alloc);
     for member in members {
         if let Cited::Rule(name) = member {
-            add_rule(alloc, store, name, &mut rules, work)?;
+            add_rule(alloc, &mut viewer, name, &mut rules, work)?;
         }
     }
     Ok(Book { rules })

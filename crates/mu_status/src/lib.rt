@@ -2,6 +2,7 @@
 #![tactic(auto)]
 
 mod books;
+mod sights;
 mod statuses;
 
 pub use statuses::{RuleStatus, status, statuses_of};

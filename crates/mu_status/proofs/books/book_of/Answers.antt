@@ -1,8 +1,11 @@
-use Rattle.std.proofs.Common.{arith, ◌≡◌, ◌+◌, ◌∙◌, sym, ap, subst, take, List, ◌++◌, [], ◌∷◌}
+use Rattle.std.proofs.Common.{Bor, arith, ◌≡◌, ◌+◌, ◌∙◌, sym, ap, subst, take, List, ◌++◌, [], ◌∷◌}
 use Rattle.std.proofs.lemmas.Grind.{common_steps}
 use Rattle.std.proofs.lemmas.List.{take_more}
 use Rattle.mu_tables.specs.declared.work.Work.{Work}
 use Rattle.mu_tree.specs.Maps.{MapOf}
+use Rattle.mu_flat.specs.Entries.{Entries}
+use Rattle.mu_flat.specs.declared.stores.Store.{Store}
+use Rattle.mu_status.specs.declared.sights.Viewer.{Viewer}
 use Rattle.mu_proof.specs.declared.citations.Cited.{Cited}
 use Rattle.mu_proof.specs.declared.citations.Cited.TheVariants.{Rule, Morphism}
 use Rattle.mu_status.specs.Books.{IsBook}
@@ -12,7 +15,7 @@ use Rattle.mu_status.proofs.books.book_of.Goals as goal
 use Rattle.mu_status.proofs.books.book_of.Goals.{in-Rule+in_ok-add_rule, in_default}
 
 pub loop-member-init : goal.loop-member-init
-loop-member-init c = record { book = book_begins c.args.store.now c.new-rules.result c.new-rules.ensures; work = omega arith }
+loop-member-init c = record { book = book_begins c.args.store.now c.new-rules.result c.new-rules.ensures; viewer = ap (λ (at : Bor Store). at.now) c.new-viewer.ensures; work = omega arith }
 
 pub loop-member-preserved : goal.loop-member-preserved
 loop-member-preserved c =
@@ -24,7 +27,7 @@ loop-member-preserved c =
       | in-Rule+in_ok-add_rule w ↦
           subst (λ members. IsBook e members c.match-member.rules) (sym (one_more (Rule w.in-Rule.name) w.in-Rule.is))
           (subst (λ (rules : MapOf Standing). IsBook e (before ++ Rule w.in-Rule.name ∷ []) rules) (sym w.rules-is)
-          (w.in_ok-add_rule.ensures.value before c.loop-member.invariant.book))
+          (subst (λ (at : Entries). IsBook at before c.loop-member.rules → IsBook at (before ++ Rule w.in-Rule.name ∷ []) w.add_rule.new.rules) c.loop-member.invariant.viewer (w.in_ok-add_rule.ensures.value before) c.loop-member.invariant.book))
       | in_default w ↦
           subst (λ members. IsBook e members c.match-member.rules) (sym (one_more (Morphism w.in_default.field-0) w.in_default.is))
           (subst (λ (rules : MapOf Standing). IsBook e (before ++ Morphism w.in_default.field-0 ∷ []) rules) (sym w.rules-is)
@@ -32,6 +35,10 @@ loop-member-preserved c =
     ] in
     record {
       book = book;
+      viewer = elim c.match-member.branch [
+        | in-Rule+in_ok-add_rule w ↦ ap (λ (at : Viewer). at.store.now) w.viewer-is ∙ ap (λ (at : Bor Store). at.now) w.in_ok-add_rule.ensures.store ∙ c.loop-member.invariant.viewer
+        | in_default w ↦ ap (λ (at : Viewer). at.store.now) w.viewer-is ∙ c.loop-member.invariant.viewer
+      ];
       work = elim c.match-member.branch [
         | in-Rule+in_ok-add_rule w ↦ omega (arith, ap (λ (after : Work). after.lines) w.work-is, w.in_ok-add_rule.ensures.work)
         | in_default w ↦ omega (arith, ap (λ (after : Work). after.lines) w.work-is)

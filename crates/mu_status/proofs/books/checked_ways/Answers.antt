@@ -8,7 +8,7 @@ use Rattle.mu_status.proofs.books.checked_ways.Goals as goal
 
 pub loop-entry-preserved : goal.loop-entry-preserved
 loop-entry-preserved c =
-    let e = c.args.store.now in
+    let e = c.args.context.now.store.now in
     let r = c.args.checker.now.rule in
     let p = c.in-Some.entry.1.now in
     let before = proof_ways e r (map deref_pair c.loop-entry.yielded) in

@@ -7,8 +7,8 @@ use Rattle.mu_status.proofs.books.checked_ways.Given as goal
 
 abbrev pub invariant-loop-entry : goal.invariant-loop-entry
 invariant-loop-entry l = record {
-  ways : l.ways ≡ proof_ways l.store l.initial.checker.rule (map deref_pair l.yielded);
-  checker : IsChecker (world_of l.store) l.checker;
+  ways : l.ways ≡ proof_ways l.context.store.now l.initial.checker.rule (map deref_pair l.yielded);
+  checker : IsChecker (world_of l.context.store.now) l.checker;
   rule : l.checker.rule ≡ l.initial.checker.rule;
   work : l.initial.work.lines ≤ l.work.lines;
 }

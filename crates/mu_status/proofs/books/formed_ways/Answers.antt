@@ -12,8 +12,8 @@ use Rattle.mu_status.proofs.books.formed_ways.Goals as goal
 
 pub returns-in-None-clause-value : goal.returns-in-None-clause-value
 returns-in-None-clause-value c =
-    let none : finite.get c.args.store.now.proofs c.args.rule.now ≡ None = grind (arith, common_steps) in
-    let by_proofs = λ (entries : List (List ℕ × List Item)). map (λ entry. cites entry.1) (filter (checks c.args.store.now c.args.rule.now) entries) in
+    let none : finite.get c.args.context.now.store.now.proofs c.args.rule.now ≡ None = grind (arith, common_steps) in
+    let by_proofs = λ (entries : List (List ℕ × List Item)). map (λ entry. cites entry.1) (filter (checks c.args.context.now.store.now c.args.rule.now) entries) in
     c.new-ways.ensures
-    ∙ sym (ap by_proofs (none_stored c.args.store.now.proofs c.args.rule.now none))
-    ∙ sym (cond-false c.args.statement.now.is_axiom ([] ∷ []) (by_proofs (finite.entries (proofs_of c.args.store.now.proofs c.args.rule.now))) c.if-statement.false)
+    ∙ sym (ap by_proofs (none_stored c.args.context.now.store.now.proofs c.args.rule.now none))
+    ∙ sym (cond-false c.args.statement.now.is_axiom ([] ∷ []) (by_proofs (finite.entries (proofs_of c.args.context.now.store.now.proofs c.args.rule.now))) c.if-statement.false)
