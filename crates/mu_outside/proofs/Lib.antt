@@ -1,2 +1,6 @@
-pub mod PieceLemmas
+pub mod CallLemmas
+pub mod ImageLemmas
+pub mod LeavesLemmas
+pub mod RangeLemmas
+pub mod SceneLemmas
 pub mod TakingLemmas

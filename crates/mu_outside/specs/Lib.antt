@@ -1,5 +1,10 @@
 pub mod Counts
+pub mod DeskLaws
 pub mod Desks
+pub mod Disks
+pub mod Images
+pub mod Leaves
 pub mod Logs
+pub mod Moments
 pub mod Outsides
-pub mod Pieces
+pub mod Scenes

@@ -7,6 +7,6 @@ pub struct Faults {
     pub takes: Numbers,
     /// The failing calls of `tell`.
     pub tells: Numbers,
-    /// The failing calls of the disk. It has no calls yet, so these have no effect.
+    /// The failing calls of the disk, of whichever of its six kinds.
     pub disks: Numbers,
 }

@@ -1,61 +1,69 @@
-ghost use Rattle.std.specs.Prelude.{◌≡◌, [], ◌∷◌, ◌++◌, OnOk, OnErr};
-ghost use Rattle.mu_outside.specs.Pieces.{printed_by};
+ghost use Rattle.std.specs.Prelude.{◌≡◌, [], ◌∷◌, ◌++◌, IfOk, OnOk, OnErr};
+ghost use Rattle.mu_outside.specs.Scenes.{start, step, played, printed_by};
 ghost use Rattle.mu_outside.specs.Logs.{with_call, with_starved};
 
+use crate::calls::Call;
 use crate::counts::count;
+use crate::replays::Replay;
 use mu_tree::{Bytes, NoMemory};
 use std::alloc::Global;
 use std::marker::Model;
 
-/// What a call of a desk did.
-#[derive(Debug, Drop)]
-pub(crate) enum Call {
-    /// It printed nothing and left the disk as it was: it took input, or failed.
-    Silent,
-    /// It printed these bytes.
-    Told(Bytes),
-}
-
-/// The calls of a desk, in order, and what they printed.
+/// The calls of a desk, in order, and what they led to.
 #[derive(Debug, Drop)]
 pub(crate) struct Log {
     alloc: Global,
-    calls: Vec<Call>,
-    told: Vec<u8>,
+    pub(crate) first: Bytes,
+    pub(crate) calls: Vec<Call>,
+    replay: Replay,
     starved: u64,
 }
 
 impl Model for Log {
     ghost use Rattle.std.specs.Prelude.{◌≡◌};
     ghost use Rattle.mu_outside.specs.Logs.{LogState};
-    ghost use Rattle.mu_outside.specs.Pieces.{printed_by};
+    ghost use Rattle.mu_outside.specs.Scenes.{start, played};
 
     ghost Value = { LogState };
 
-    ghost view = { λ log. record { calls = log.calls.items; told = log.told.items; starved = log.starved } };
+    ghost view = { λ log. record { first = log.first; calls = log.calls.items; starved = log.starved } };
 
-    ghost invariant = { λ log. log.told.items ≡ printed_by log.calls.items };
+    ghost invariant = { λ log. log.replay ≡ played (start log.first) log.calls.items };
 }
 
 impl Log {
-    /// No call so far.
-    pub(crate) fn new(alloc: Global) -> Log
-        ensures { result ≡ record { calls = []; told = []; starved = 0 } }
+    /// No call so far, over a disk with these bytes.
+    ///
+    /// # Errors
+    ///
+    /// `NoMemory`.
+    pub(crate) fn new(alloc: Global, first: Bytes) -> Result<Log, NoMemory>
+        ensures { IfOk result (λ log. log ≡ record { first = first; calls = []; starved = 0 }) }
     {
-        Log {
+        let replay = Replay::new(alloc, first.items())?;
+        Ok(Log {
             alloc,
+            first,
             calls: Vec::new(alloc),
-            told: Vec::new(alloc),
+            replay,
             starved: 0,
-        }
+        })
+    }
+
+    /// What a read of the disk gives.
+    pub(crate) fn content(&self) -> &[u8]
+        ensures { result.now ≡ (played (start self.now.first) self.now.calls).disk.content }
+    {
+        self.replay.content()
     }
 
     /// The bytes that the calls printed.
+    #[tactic(auto, using(crate::proofs::SceneLemmas::told_by_calls))]
     pub(crate) fn told(&self) -> &[u8]
-        ensures bytes { result.now ≡ self.now.told }
-        ensures calls { self.now.told ≡ printed_by self.now.calls }
+        ensures bytes { result.now ≡ (played (start self.now.first) self.now.calls).told }
+        ensures calls { result.now ≡ printed_by self.now.calls }
     {
-        self.told.as_slice()
+        self.replay.told()
     }
 
     /// How many calls there was no memory to note.
@@ -65,17 +73,17 @@ impl Log {
         self.starved
     }
 
-    /// Notes a call that prints nothing.
+    /// Notes a call.
     ///
     /// # Errors
     ///
     /// `NoMemory` notes nothing but that memory was wanting.
-    #[tactic(auto, using(crate::proofs::PieceLemmas::printed_by_silent))]
-    pub(crate) fn note_silent(&mut self) -> Result<(), NoMemory>
-        ensures ok { OnOk result (self.new ≡ with_call Call.Silent self.old) }
+    #[tactic(auto, using(crate::proofs::SceneLemmas::played_push))]
+    pub(crate) fn note(&mut self, call: Call) -> Result<(), NoMemory>
+        ensures ok { OnOk result (self.new ≡ with_call call self.old) }
         ensures err { OnErr result (self.new ≡ with_starved self.old) }
     {
-        if self.calls.push(Call::Silent).is_err() {
+        if add_call(&mut self.calls, &mut self.replay, call).is_err() {
             return Err(self.starve());
         }
         Ok(())
@@ -86,19 +94,29 @@ impl Log {
     /// # Errors
     ///
     /// `NoMemory` notes nothing but that memory was wanting.
-    #[tactic(auto, using(crate::proofs::PieceLemmas::printed_by_push))]
     pub(crate) fn note_told(&mut self, piece: &[u8]) -> Result<(), NoMemory>
         ensures ok { OnOk result (self.new ≡ with_call (Call.Told piece.now) self.old) }
         ensures err { OnErr result (self.new ≡ with_starved self.old) }
     {
-        if push_piece(self.alloc, &mut self.calls, &mut self.told, piece).is_err() {
-            return Err(self.starve());
+        match copied(self.alloc, piece) {
+            Ok(piece) => self.note(Call::Told(piece)),
+            Err(NoMemory) => Err(self.starve()),
         }
-        Ok(())
     }
 
-    // Counts a call that there was no memory to note.
-    fn starve(&mut self) -> NoMemory
+    /// A call that writes these bytes from a place on, not yet noted.
+    ///
+    /// # Errors
+    ///
+    /// `NoMemory`.
+    pub(crate) fn written(&self, at: u64, bytes: &[u8]) -> Result<Call, NoMemory>
+        ensures { IfOk result (λ call. call ≡ Call.Wrote at bytes.now) }
+    {
+        Ok(Call::Wrote(at, copied(self.alloc, bytes)?))
+    }
+
+    /// Counts a call that there was no memory to note.
+    pub(crate) fn starve(&mut self) -> NoMemory
         ensures { self.new ≡ with_starved self.old }
     {
         count(&mut self.starved);
@@ -106,23 +124,23 @@ impl Log {
     }
 }
 
-// Adds a call that prints a piece to the calls and its bytes to the printed ones, or leaves both.
-fn push_piece(
-    alloc: Global,
-    calls: &mut Vec<Call>,
-    told: &mut Vec<u8>,
-    piece: &[u8],
-) -> Result<(), NoMemory>
-    ensures calls { OnOk result (calls.new.items ≡ calls.old.items ++ Call.Told piece.now ∷ []) }
-    ensures told { OnOk result (told.new.items ≡ told.old.items ++ piece.now) }
-    ensures same_calls { OnErr result (calls.new.items ≡ calls.old.items) }
-    ensures same_told { OnErr result (told.new.items ≡ told.old.items) }
+fn copied(alloc: Global, bytes: &[u8]) -> Result<Bytes, NoMemory>
+    ensures { IfOk result (λ copy. copy ≡ bytes.now) }
 {
-    let copy = Bytes::from_vec(Vec::from_slice(alloc, piece)?);
-    told.reserve(piece.len())?;
-    if calls.push(Call::Told(copy)).is_err() {
+    Ok(Bytes::from_vec(Vec::from_slice(alloc, bytes)?))
+}
+
+// Adds a call to the calls and does what it did, or leaves both.
+fn add_call(calls: &mut Vec<Call>, replay: &mut Replay, call: Call) -> Result<(), NoMemory>
+    ensures calls { OnOk result (calls.new.items ≡ calls.old.items ++ call ∷ []) }
+    ensures replay { OnOk result (replay.new ≡ step replay.old call) }
+    ensures same_calls { OnErr result (calls.new.items ≡ calls.old.items) }
+    ensures same_replay { OnErr result (replay.new ≡ replay.old) }
+{
+    calls.reserve(1)?;
+    replay.apply(&call)?;
+    if calls.push(call).is_err() {
         return Err(NoMemory);
     }
-    told.extend_from_slice(piece)?;
     Ok(())
 }

@@ -34,7 +34,13 @@ told_more told0 told1 told2 bytes piece at n is so_far more =
     ∙ append_twice told0 _ _ ∙ ap (λ (l : List ℕ). append_known told0 l) (take_add bytes at n)
 
 pub keeps_on : (old mid new : Observed) → KeepsButTold old mid → KeepsButTold mid new → KeepsButTold old new
-keeps_on old mid new a b = record { left = b.left ∙ a.left; read_faults = b.read_faults ∙ a.read_faults }
+keeps_on old mid new a b = record {
+  left = b.left ∙ a.left;
+  disk = b.disk ∙ a.disk;
+  attached = b.attached ∙ a.attached;
+  read_faults = b.read_faults ∙ a.read_faults;
+  disk_faults = b.disk_faults ∙ a.disk_faults;
+}
 
 -- the whole input, from what was taken of it
 pub whole_input : (left0 left1 : Option (List ℕ)) (bytes input : List ℕ) → left0 ≡ prepend_known bytes left1 → left0 ≡ Some input → (rest : List ℕ) × (input ≡ bytes ++ rest) × (left1 ≡ Some rest)

@@ -11,9 +11,10 @@ mod wording;
 use mu_host::Host;
 use runs::run;
 use status::Status;
+use std::fs::File;
 use std::io::ErrorKind;
 use std::process::ExitCode;
-use std::rt::Env;
+use std::rt::{Env, Files};
 use std::{env, io};
 
 fn main(rt: HostRuntime) -> ExitCode {
@@ -25,7 +26,7 @@ fn main(rt: HostRuntime) -> ExitCode {
 }
 
 /// Runs over standard input and standard output, with the words that the program was given.
-fn start<R: Env + AllocGlobal + Input + Print>(rt: &R) -> Status {
+fn start<R: Env + AllocGlobal + Files<File = File> + Input + Print>(rt: &R) -> Status {
     match words(rt) {
         Ok(words) => run(rt.alloc(), words.as_slice(), &mut Host::new(rt)),
         Err(error) if error.kind() == ErrorKind::OutOfMemory => Status::NoMemory,

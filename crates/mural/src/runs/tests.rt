@@ -1,5 +1,6 @@
 mod boxes;
 mod calls;
+mod devices;
 mod edits;
 mod examples;
 mod forms;
@@ -11,9 +12,11 @@ mod statuses;
 mod transcripts;
 mod trees;
 mod units;
+mod worked;
 
 use super::*;
 use boxes::boxes;
+use devices::{Blanks, Drip};
 use edits::edits;
 use examples::{examples, first};
 use mu_outside::{Desk, Faults};
@@ -25,6 +28,7 @@ use std::test::Fail;
 use transcripts::transcripts;
 use trees::trees;
 use units::units;
+use worked::worked;
 
 fn desk(alloc: Global, input: &[u8], takes: &[u64], tells: &[u64]) -> Result<Desk, NoMemory> {
     let input = Bytes::from_vec(Vec::from_slice(alloc, input)?);
@@ -34,51 +38,6 @@ fn desk(alloc: Global, input: &[u8], takes: &[u64], tells: &[u64]) -> Result<Des
         disks: Numbers::new(alloc),
     };
     Desk::new(alloc, input, Bytes::new(alloc), faults)
-}
-
-/// An outside that moves one byte at a time.
-struct Drip {
-    desk: Desk,
-}
-
-impl Outside for Drip {
-    ghost use Rattle.mu_outside.specs.Desks.{known_by};
-
-    ghost observed = { λ drip. known_by drip.desk };
-
-    fn take(&mut self, buf: &mut [u8]) -> Result<usize, Failed> {
-        let mut one = [0];
-        let taken = self.desk.take(&mut one)?;
-        buf[0] = one[0];
-        Ok(taken)
-    }
-
-    fn tell(&mut self, piece: &[u8]) -> Result<usize, Failed> {
-        self.desk.tell(&piece[..1])
-    }
-}
-
-/// An input of so many blanks, in memory that does not grow with it.
-#[derive(Drop)]
-struct Blanks {
-    left: u64,
-}
-
-impl Outside for Blanks {
-    ghost use Rattle.std.specs.Prelude.{None};
-
-    ghost observed = { λ blanks. record { left = None; told = None; read_faults = 0; tell_faults = 0 } };
-
-    fn take(&mut self, buf: &mut [u8]) -> Result<usize, Failed> {
-        buf.fill(b' ');
-        let taken = self.left.min(buf.len() as u64);
-        self.left -= taken;
-        Ok(taken as usize)
-    }
-
-    fn tell(&mut self, piece: &[u8]) -> Result<usize, Failed> {
-        Ok(piece.len())
-    }
 }
 
 #[test]
@@ -178,6 +137,7 @@ fn answers_as_in_the_transcripts(rt: HostRuntime) -> Result<(), Fail> {
         None,
         "transcripts on statuses"
     );
+    assert_eq!(rt; first_wrong(alloc, &worked())?, None, "worked examples");
     Ok(())
 }
 
