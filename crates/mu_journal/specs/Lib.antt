@@ -1,0 +1,5 @@
+pub mod Formats
+pub mod Frames
+pub mod Gates
+pub mod Opening
+pub mod Settled
