@@ -68,7 +68,7 @@ fn look<O: Outside>(piece: &mut Piece, out: &mut O, at: u64, len: u64) -> Result
     ensures cause { OnErr result (Rose (O.observed out.old).disk_faults (O.observed out.new).disk_faults) }
 {
     let known = piece.known(at);
-    if known.len() >= 5 {
+    if known.len() >= 5 || at + known.len() as u64 == len {
         return Ok(gate_of(known, at, len));
     }
     piece.load(out, at)?;
