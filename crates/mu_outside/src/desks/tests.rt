@@ -1,97 +1,140 @@
-ghost use Rattle.std.specs.Prelude.{◌≡◌, false, IfOk};
+ghost use Rattle.std.specs.Prelude.{◌≡◌, true};
 
 use super::*;
 use mu_tree::Numbers;
 use std::test::Fail;
 
-fn desk(alloc: Global, takes: &[u64], tells: &[u64], disks: &[u64]) -> Result<Desk, NoMemory>
-    ensures { IfOk result (λ desk. desk.attached ≡ false) }
-{
-    let input = Bytes::from_vec(Vec::from_slice(alloc, b"input")?);
-    let disk = Bytes::from_vec(Vec::from_slice(alloc, b"abc")?);
+/// A desk whose journal is named.
+#[derive(Drop)]
+struct Named {
+    desk: Desk,
+    ghost named: { desk.attached ≡ true },
+}
+
+// A desk with these failing calls, whose journal is named.
+fn start(alloc: Global, takes: &[u64], tells: &[u64], disks: &[u64]) -> Option<Named> {
     let faults = Faults {
-        takes: Numbers::from_vec(Vec::from_slice(alloc, takes)?),
-        tells: Numbers::from_vec(Vec::from_slice(alloc, tells)?),
-        disks: Numbers::from_vec(Vec::from_slice(alloc, disks)?),
+        takes: Numbers::from_vec(Vec::from_slice(alloc, takes).ok()?),
+        tells: Numbers::from_vec(Vec::from_slice(alloc, tells).ok()?),
+        disks: Numbers::from_vec(Vec::from_slice(alloc, disks).ok()?),
     };
-    Desk::new(alloc, input, disk, faults)
+    let input = Bytes::from_vec(Vec::from_slice(alloc, b"input").ok()?);
+    let disk = Bytes::from_vec(Vec::from_slice(alloc, b"abc").ok()?);
+    let mut desk = Desk::new(alloc, input, disk, faults).ok()?;
+    desk.attach("journal").ok()?;
+    Some(Named { desk })
+}
+
+// Calls of little contract, so that a test of many calls is soon checked.
+impl Named {
+    fn take(&mut self, buf: &mut [u8]) -> Option<usize> {
+        if buf.is_empty() {
+            return None;
+        }
+        self.desk.take(buf).ok()
+    }
+
+    fn tell(&mut self, piece: &[u8]) -> Option<usize> {
+        if piece.is_empty() {
+            return None;
+        }
+        self.desk.tell(piece).ok()
+    }
+
+    fn length(&mut self) -> Option<u64> {
+        self.desk.length().ok()
+    }
+
+    fn read(&mut self, at: u64, buf: &mut [u8]) -> Option<usize> {
+        if buf.is_empty() {
+            return None;
+        }
+        self.desk.read_at(at, buf).ok()
+    }
+
+    fn write(&mut self, at: u64, bytes: &[u8]) -> bool {
+        at <= self.desk.disk().len() as u64 && self.desk.write_at(at, bytes).is_ok()
+    }
+
+    fn cut(&mut self, at: u64) -> bool {
+        at <= self.desk.disk().len() as u64 && self.desk.cut(at).is_ok()
+    }
+
+    fn sync(&mut self) -> bool {
+        self.desk.sync().is_ok()
+    }
+
+    fn has(&self, disk: &[u8], told: &[u8]) -> bool {
+        self.desk.disk() == disk && self.desk.told() == told && self.desk.starved() == 0
+    }
+
+    fn shows(&self, alloc: Global, number: u64, fill: u8, long: bool, image: &[u8]) -> bool {
+        match self.desk.image(alloc, number, fill, long) {
+            Ok(Some((shown, told))) => {
+                shown.items() == image && told.items() == b"hello".as_slice()
+            }
+            Ok(None) | Err(NoMemory) => false,
+        }
+    }
+
+    fn shows_a_write(&self, alloc: Global, fill: u8) -> bool {
+        self.shows(alloc, 3, fill, false, &[b'a', fill, fill])
+            && self.shows(alloc, 3, fill, true, &[b'a', fill, fill, fill])
+    }
+
+    fn shows_a_cut(&self, alloc: Global, fill: u8) -> bool {
+        self.shows(alloc, 5, fill, false, b"ax")
+            && self.shows(alloc, 5, fill, true, &[b'a', b'x', fill, fill])
+    }
 }
 
 #[test]
 fn does_what_it_is_asked(rt: HostRuntime) -> Result<(), Fail> {
-    let mut desk = desk(rt.alloc(), &[], &[], &[])?;
+    let mut desk = start(rt.alloc(), &[], &[], &[]).ok_or(Failed)?;
     let mut buf = [0; 4];
-    assert!(rt; desk.take(&mut buf) == Ok(4));
+    assert!(rt; desk.take(&mut buf) == Some(4));
     assert!(rt; buf == *b"inpu");
-    assert!(rt; desk.tell(b"hello") == Ok(5));
-    assert!(rt; desk.attach("journal").is_ok());
-    assert!(rt; desk.length() == Ok(3));
-    assert!(rt; desk.disk().len() == 3);
-    assert!(rt; desk.write_at(1, b"xyz").is_ok());
-    assert!(rt; desk.disk() == b"axyz".as_slice());
-    assert!(rt; desk.read_at(2, &mut buf) == Ok(2));
+    assert!(rt; desk.tell(b"hello") == Some(5));
+    assert!(rt; desk.length() == Some(3));
+    assert!(rt; desk.write(1, b"xyz"));
+    assert!(rt; desk.has(b"axyz", b"hello"));
+    assert!(rt; desk.read(2, &mut buf) == Some(2));
     assert!(rt; buf == *b"yzpu");
-    assert!(rt; desk.disk().len() == 4);
-    assert!(rt; desk.cut(1).is_ok());
-    assert!(rt; desk.sync().is_ok());
-    assert!(rt; desk.disk() == b"a".as_slice());
-    assert!(rt; desk.told() == b"hello".as_slice());
-    assert!(rt; desk.starved() == 0);
+    assert!(rt; desk.cut(1));
+    assert!(rt; desk.sync());
+    assert!(rt; desk.has(b"a", b"hello"));
     Ok(())
 }
 
 #[test]
 fn fails_where_it_is_listed(rt: HostRuntime) -> Result<(), Fail> {
-    let mut desk = desk(rt.alloc(), &[1], &[1], &[1, 3, 4, 5, 6, 7])?;
+    assert!(rt; start(rt.alloc(), &[], &[], &[1]).is_none());
+    let mut desk = start(rt.alloc(), &[1], &[1], &[2, 3, 4, 5, 6]).ok_or(Failed)?;
     let mut buf = [0; 4];
-    assert!(rt; desk.take(&mut buf).is_err());
-    assert!(rt; desk.take(&mut buf) == Ok(4));
-    assert!(rt; desk.tell(b"hello").is_err());
-    assert!(rt; desk.tell(b"there") == Ok(5));
-    assert!(rt; desk.attach("journal").is_err());
-    assert!(rt; desk.attach("journal").is_ok());
-    assert!(rt; desk.length().is_err());
-    assert!(rt; desk.read_at(0, &mut buf).is_err());
-    assert!(rt; desk.write_at(0, b"x").is_err());
-    assert!(rt; desk.cut(0).is_err());
-    assert!(rt; desk.sync().is_err());
-    assert!(rt; desk.length() == Ok(3));
-    assert!(rt; desk.disk() == b"abc".as_slice());
-    assert!(rt; desk.told() == b"there".as_slice());
+    assert!(rt; desk.take(&mut buf).is_none());
+    assert!(rt; desk.take(&mut buf) == Some(4));
+    assert!(rt; desk.tell(b"hello").is_none());
+    assert!(rt; desk.tell(b"there") == Some(5));
+    assert!(rt; desk.length().is_none());
+    assert!(rt; desk.read(0, &mut buf).is_none());
+    assert!(rt; !desk.write(0, b"x"));
+    assert!(rt; !desk.cut(0));
+    assert!(rt; !desk.sync());
+    assert!(rt; desk.length() == Some(3));
+    assert!(rt; desk.has(b"abc", b"there"));
     Ok(())
-}
-
-fn shows(
-    alloc: Global,
-    desk: &Desk,
-    number: u64,
-    fill: u8,
-    long: bool,
-    image: &[u8],
-) -> Result<bool, NoMemory> {
-    Ok(match desk.image(alloc, number, fill, long)? {
-        Some((shown, told)) => shown.items() == image && told.items() == b"hello".as_slice(),
-        None => false,
-    })
 }
 
 #[test]
 fn shows_a_write_and_a_cut(rt: HostRuntime) -> Result<(), Fail> {
-    let mut desk = desk(rt.alloc(), &[], &[], &[])?;
-    assert!(rt; desk.tell(b"hello") == Ok(5));
-    assert!(rt; desk.attach("journal").is_ok());
-    assert!(rt; desk.disk().len() == 3);
-    assert!(rt; desk.write_at(1, b"xyz").is_ok());
-    assert!(rt; desk.sync().is_ok());
-    assert!(rt; desk.disk().len() == 4);
-    assert!(rt; desk.cut(2).is_ok());
+    let mut desk = start(rt.alloc(), &[], &[], &[]).ok_or(Failed)?;
+    assert!(rt; desk.tell(b"hello") == Some(5));
+    assert!(rt; desk.write(1, b"xyz") && desk.sync() && desk.cut(2));
     for fill in [0x00, 0xa5, 0xff] {
-        assert!(rt; shows(rt.alloc(), &desk, 3, fill, false, &[b'a', fill, fill])?);
-        assert!(rt; shows(rt.alloc(), &desk, 3, fill, true, &[b'a', fill, fill, fill])?);
-        assert!(rt; shows(rt.alloc(), &desk, 5, fill, false, b"ax")?);
-        assert!(rt; shows(rt.alloc(), &desk, 5, fill, true, &[b'a', b'x', fill, fill])?);
+        assert!(rt; desk.shows_a_write(rt.alloc(), fill));
+        assert!(rt; desk.shows_a_cut(rt.alloc(), fill));
     }
-    assert!(rt; desk.image(rt.alloc(), 0, 0, true)?.is_none());
-    assert!(rt; desk.image(rt.alloc(), 6, 0, true)?.is_none());
+    assert!(rt; !desk.shows(rt.alloc(), 0, 0, true, b""));
+    assert!(rt; !desk.shows(rt.alloc(), 6, 0, true, b""));
     Ok(())
 }
