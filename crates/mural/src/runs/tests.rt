@@ -349,6 +349,7 @@ c axiom established
 fn gives_up_behind_2_to_the_28_bytes(rt: HostRuntime) {
     let mut blanks = Blanks {
         left: MOST_INPUT + 1,
+        attached: false,
     };
     assert_eq!(rt; run(rt.alloc(), &[], &mut blanks), Status::InputTooLong);
 }
